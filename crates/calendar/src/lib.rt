@@ -1,0 +1,2 @@
+//! The calendar: instants as a day number and microseconds of the day.
+pub mod instant;

@@ -1,0 +1,2 @@
+//! The four cells that follow from the rows and from nothing else: row count, start, end and interval.
+pub mod summary;

@@ -1,0 +1,59 @@
+//! The lines of a text, one after another.
+ghost use mathlib.Core.Path.{_≡_};
+ghost use Prim.Native.Nat.{_+_, _≤_};
+ghost use lib.ListN.{length, drop};
+ghost use Rattle.lines.specs.Lines.{nextLine, lists, bytesTaken, linesTaken};
+use crate::scan::LineEnd;
+use crate::scan::scan;
+use refusal::Refusal;
+
+/// Reads a text line by line off its own bytes.
+#[derive(Drop)]
+pub struct Lines<'f> {
+    file: &'f [u8],
+    /// Where the next line begins.
+    at: usize,
+    /// How many lines were read.
+    line: usize,
+    ghost inside: { at ≤ length (file .now) },
+    ghost counts: { line ≤ at },
+}
+
+impl<'f> Lines<'f> {
+    pub fn new(file: &'f [u8]) -> Lines<'f>
+        ensures { λ r. ⌜ r .file ≡ file .entry ⌝ ∗ ⌜ r .at ≡ 0 ⌝ ∗ ⌜ r .line ≡ 0 ⌝ }
+    {
+        Lines { file, at: 0, line: 0 }
+    }
+
+    /// The number of the line read last, counted from 1; 0 before the first.
+    pub fn number(&self) -> usize
+        ensures { λ r. ⌜ r ≡ now (self .entry) .line ⌝ }
+    {
+        self.line
+    }
+
+    /// The next line without its end, None after the last; 11 and 12 for a line that is none.
+    pub fn next(&mut self) -> Result<Option<&'f [u8]>, Refusal>
+        ensures gives { λ r. ⌜ lists r ≡ nextLine (now (self .entry) .line + 1) (drop (now (self .entry) .at) (now (now (self .entry) .file))) ⌝ }
+        ensures file { λ r. ⌜ now (self .exit) .file ≡ now (self .entry) .file ⌝ }
+        ensures at { λ r. ⌜ now (self .exit) .at ≡ now (self .entry) .at + bytesTaken (lists r) ⌝ }
+        ensures line { λ r. ⌜ now (self .exit) .line ≡ now (self .entry) .line + linesTaken (lists r) ⌝ }
+    {
+        let file = self.file;
+        let at = self.at;
+        if at >= file.len() {
+            return Ok(None);
+        }
+        match scan(&file[at..]) {
+            LineEnd::After(n) => {
+                let line = &file[at..at + n];
+                self.at = at + n + 1;
+                self.line += 1;
+                Ok(Some(line))
+            }
+            LineEnd::Forbidden => Err(Refusal::ForbiddenByte { line: self.line + 1 }),
+            LineEnd::TooLong => Err(Refusal::TooLong { line: self.line + 1 }),
+        }
+    }
+}
