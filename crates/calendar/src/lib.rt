@@ -1,2 +1,3 @@
-//! The calendar: instants as a day number and microseconds of the day.
+//! The calendar: instants as a day number and microseconds of the day, and dates.
+pub mod date;
 pub mod instant;

@@ -1,4 +1,6 @@
-//! What a prediction sheet holds: rows, their leap flags, positions and velocities.
+//! What a prediction sheet holds: rows, and the header.
+pub mod header;
+pub mod name;
 use calendar::instant::Instant;
 use calendar::instant::InstantDebug;
 use calendar::instant::InstantPartialEq;

@@ -1,0 +1,9 @@
+pub mod Powers
+pub mod Words
+pub mod Taken
+pub mod Exact
+pub mod Digits
+pub mod Lengths
+pub mod Puts
+pub mod Back
+pub mod Printed

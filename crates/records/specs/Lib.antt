@@ -1,0 +1,4 @@
+pub mod Types
+pub mod Tables
+pub mod Fields
+pub mod Reads
