@@ -1,6 +1,6 @@
 -- What digits write.
-use mathlib.Core.Path.{_≡_, refl, sym, ap, _∙_}
-use mathlib.Core.List.{List, [], _∷_, _++_}
+use mathlib.Core.Path.{_≡_, sym, ap, _∙_}
+use mathlib.Core.List.{List}
 use Prim.Native.Nat.{ℕ, _+_, _-_, _*_, _^_, _<_, _≤_}
 use native.Mathlib.Nat.{add-mul, mul-le-mul, mul-le-mul-right, one-le-pow}
 use native.Mathlib.Omega.{arith}
@@ -8,11 +8,10 @@ use borrow.Author.Needs.{needs}
 use lib.ListN.{length, getD, drop}
 use lib.Pow.{pow-add}
 use Rattle.std.specs.shelf.Lists.{All}
-use Rattle.std.proofs.shelf.Elements.{all-getD}
 use Rattle.std.proofs.shelf.Lists.{at-drop-more, at-drop-all}
-use Rattle.std.proofs.shelf.Numerals.{Numerals, numerals-by-fold, value-short}
+use Rattle.std.proofs.shelf.Numerals.{Numerals, numerals-by-fold}
 use Rattle.numbers.specs.Shapes.{Digit}
-use Rattle.numbers.specs.Values.{digitsAfter, digitsValue, fractionUnits}
+use Rattle.numbers.specs.Values.{digitsAfter, digitsValue}
 use Rattle.numbers.proofs.Powers.{pow-more, pow-le}
 
 pub own : Numerals (All Digit) digitsValue
@@ -29,9 +28,6 @@ digit-more n i x h small = omega (arith, pow-more i)
 
 pub below : (n i k : ℕ) → n < 10 ^ i → i ≤ k → n < 10 ^ k
 below n i k h le = omega (arith, pow-le i k le)
-
-pub short-value : (ds : List ℕ) (k : ℕ) → All Digit ds → length ds ≤ k → digitsValue ds < 10 ^ k
-short-value ds k h le = value-short own ds k h le
 
 -- the value of digits after the point is less than one whole
 pub fraction-short : (n k d : ℕ) → n < 10 ^ k → k ≤ d → n * 10 ^ (d - k) < 10 ^ d

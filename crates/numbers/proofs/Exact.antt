@@ -1,18 +1,16 @@
 -- A word is read just where it is a number, and then as that number.
 use mathlib.Core.Path.{_≡_, refl, sym, ap, subst, _∙_}
-use mathlib.Core.Bool.{Bool, true, false, cond}
 use mathlib.Core.List.{List, [], _∷_}
 use mathlib.Core.Logic.{inl, inr}
-use Prim.Native.Nat.{ℕ, _+_, _-_, _*_, _^_, _≤_}
+use Prim.Native.Nat.{ℕ, _+_, _-_, _*_, _^_}
 use native.Mathlib.Nat.{zero-mul}
 use native.Mathlib.Omega.{arith}
 use lib.IntN.{ℤ}
 use lib.ListN.{length}
-use Rattle.std.specs.declared.option.Option.{Option}
 use Rattle.std.specs.declared.option.Option.the-variants.{Some, None}
 use Rattle.std.proofs.shelf.Tests.{leb-true, le-leb, cond-true}
 use Rattle.numbers.specs.Shapes.{Shape, wholeWord, decimalWord, textWord, wordOf}
-use Rattle.numbers.specs.Values.{digitsValue, signedValue, takesFraction, fractionUnits, wholeIn, numberOf, wholeOf, decimalOf}
+use Rattle.numbers.specs.Values.{digitsValue, signedValue, takesFraction, fractionUnits, wholeIn, numberOf, decimalOf}
 use Rattle.numbers.specs.Parts.{Parts, IsWhole, IsDecimal, Whole-words-exact, Decimal-words-exact}
 use Rattle.numbers.proofs.Taken.{by-bool, Holds, word-holds, parts-whole, parts-decimal}
 
@@ -46,16 +44,16 @@ decimal-from w d v (wholeWord negative front) h e =
 decimal-from w d v (decimalWord negative front back) h e =
     by-bool (takesFraction back d)
     (λ t. record {
-        negative = negative;
-        front = front;
-        rest = 46 ∷ back;
-        back = back;
-        parts = h .0;
-        point = inr refl;
-        digits = h .1;
-        fine = leb-true (length back) d t;
-        value = same-value (signedValue negative (digitsValue front * 10 ^ d + fractionUnits back d)) v (rw t at e);
-      })
+      negative = negative;
+      front = front;
+      rest = 46 ∷ back;
+      back = back;
+      parts = h .0;
+      point = inr refl;
+      digits = h .1;
+      fine = leb-true (length back) d t;
+      value = same-value (signedValue negative (digitsValue front * 10 ^ d + fractionUnits back d)) v (rw t at e);
+    })
     (λ f. no-value v (rw f at e))
 decimal-from w d v (textWord t) h e = no-value v e
 
@@ -74,13 +72,13 @@ decimal-to w d v h =
     let P : List ℕ → Type 0 = Parts w negative front in
     let F : List ℕ → ℤ = λ l. signedValue negative (n + fractionUnits l d) in
     elim (h .point) [
-      inl e ↦
-        ap (λ s. numberOf s d) (sym (parts-whole w negative front (subst P (e .0) (h .parts))))
-        ∙ ap (λ x. Some x) (sym (h .value ∙ ap F (e .1) ∙ ap (signedValue negative) (no-fraction n d)))
+      | inl e ↦
+          ap (λ s. numberOf s d) (sym (parts-whole w negative front (subst P (e .0) (h .parts))))
+          ∙ ap (λ x. Some x) (sym (h .value ∙ ap F (e .1) ∙ ap (signedValue negative) (no-fraction n d)))
       | inr e ↦
-        ap (λ s. numberOf s d) (sym (parts-decimal w negative front back (subst P e (h .parts)) (h .digits)))
-        ∙ cond-true (takesFraction back d) (Some (F back)) None (le-leb (length back) d (h .fine))
-        ∙ ap (λ x. Some x) (sym (h .value))
+          ap (λ s. numberOf s d) (sym (parts-decimal w negative front back (subst P e (h .parts)) (h .digits)))
+          ∙ cond-true (takesFraction back d) (Some (F back)) None (le-leb (length back) d (h .fine))
+          ∙ ap (λ x. Some x) (sym (h .value))
     ]
 
 pub decimal-exact : Decimal-words-exact

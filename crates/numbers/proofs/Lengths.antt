@@ -1,18 +1,13 @@
 -- How long the text of a number is.
-use mathlib.Core.Path.{_≡_, refl, sym, ap, _∙_}
-use mathlib.Core.List.{List, [], _∷_, _++_}
-use Prim.Native.Nat.{ℕ, zero, suc, _+_, _-_, _*_, _/_, _%_, _^_, _<_, _≤_}
-use native.Mathlib.Nat.{div-le-self, div-lt-iff-lt-mul, one-le-pow}
+use mathlib.Core.Path.{_≡_, refl, _∙_}
+use Prim.Native.Nat.{ℕ, zero, suc, _+_, _/_, _%_, _^_, _<_, _≤_}
+use native.Mathlib.Nat.{div-le-self}
 use native.Mathlib.Omega.{arith}
-use lib.IntN.{ℤ, pos, negsuc, natAbs}
 use lib.ListN.{length}
-use lib.Pow.{pow-add}
-use lib.Signed.{_<ℤ_, _≤ℤ_}
 use Rattle.std.specs.Written.{decimal}
 use Rattle.std.proofs.shelf.Decimals.{decimal-some, length-decimal-le}
 use Rattle.std.proofs.shelf.Lists.{length-append, length-push}
-use Rattle.std.proofs.shelf.Signed.{ints}
-use Rattle.numbers.specs.Texts.{lastDigits, fractionText, unsignedText, textOf, twoDigits}
+use Rattle.numbers.specs.Texts.{lastDigits, fractionText, unsignedText}
 
 pub length-last : (d n : ℕ) → length (lastDigits d n) ≡ d
 length-last zero n = refl
@@ -21,10 +16,6 @@ length-last (suc d) n = length-push (lastDigits d (n / 10)) (48 + n % 10) ∙ om
 pub length-fraction : (d n : ℕ) → 0 < d → length (fractionText d n) ≡ 1 + d
 length-fraction zero n h = absurd (omega arith)
 length-fraction (suc d) n h = omega (arith, length-last (suc d) n)
-
-pub no-fraction : (d n : ℕ) → d ≤ 0 → length (fractionText d n) ≡ 0
-no-fraction zero n h = refl
-no-fraction (suc d) n h = absurd (omega arith)
 
 pub fraction-le : (d n : ℕ) → length (fractionText d n) ≤ 1 + d
 fraction-le zero n = omega arith
@@ -45,11 +36,3 @@ unsigned-le n d h = omega (arith, length-unsigned n d, fraction-le d n, digits-l
 
 pub unsigned-some : (n d : ℕ) → n < 2 ^ 64 → 1 ≤ length (unsignedText n d)
 unsigned-some n d h = omega (arith, length-unsigned n d, decimal-some (n / 10 ^ d) (whole-le n d h))
-
-pub length-neg : (v : ℤ) (d : ℕ) → v <ℤ pos 0 → length (textOf v d) ≡ length (unsignedText (natAbs v) d) + 1
-length-neg (pos n) d h = absurd (omega (arith, ints))
-length-neg (negsuc n) d h = omega arith
-
-pub length-pos : (v : ℤ) (d : ℕ) → pos 0 ≤ℤ v → length (textOf v d) ≡ length (unsignedText (natAbs v) d)
-length-pos (pos n) d h = refl
-length-pos (negsuc n) d h = absurd (omega (arith, ints))

@@ -1,17 +1,17 @@
 -- The steps of writing a text from its end.
 use mathlib.Core.Path.{_≡_, refl, sym, ap, _∙_}
-use mathlib.Core.List.{List, [], _∷_, _++_, append-assoc, append-nil}
-use Prim.Native.Nat.{ℕ, zero, suc, _+_, _-_, _*_, _/_, _%_, _^_, _<_, _≤_}
+use mathlib.Core.List.{List, [], _∷_, _++_, append-assoc}
+use Prim.Native.Nat.{ℕ, zero, suc, _+_, _-_, _/_, _%_, _^_, _<_, _≤_}
 use native.Mathlib.Nat.{div-div-eq-div-mul, div-one, pow-suc, pow-succ'}
 use native.Mathlib.Omega.{arith}
 use lib.IntN.{ℤ, pos, negsuc, natAbs}
 use lib.ListN.{length, getD, drop, set, replicate, length-drop}
-use lib.Signed.{_<ℤ_, _≤ℤ_, ltZ}
+use lib.Signed.{_<ℤ_, _≤ℤ_}
 use Rattle.std.specs.Written.{decimal}
 use Rattle.std.proofs.shelf.Decimals.{decimal-step, decimal-digit, decimal-some}
 use Rattle.std.proofs.shelf.Lists.{drop-set, drop-more, set-at, replicate-more, length-append, length-push, length-replicate}
 use Rattle.std.proofs.shelf.Signed.{ints}
-use Rattle.numbers.specs.Texts.{lastDigits, fractionText, unsignedText, textOf, twoDigits}
+use Rattle.numbers.specs.Texts.{lastDigits, unsignedText, textOf, twoDigits}
 use Rattle.numbers.proofs.Lengths.{length-unsigned, length-fraction, whole-le}
 
 -- one byte written before what stands from p on
@@ -89,10 +89,6 @@ put-neg v d p w xs neg at fit k h =
     let t = text-neg v d neg in
     let q : 1 ≤ p = omega (arith, ap length t, ap length at, length-drop p xs) in
     (q, back xs p 45 q h ∙ ap (λ l. 45 ∷ l) at ∙ t)
-
-pub put-pos : (v : ℤ) (d : ℕ) → pos 0 ≤ℤ v → unsignedText (natAbs v) d ≡ textOf v d
-put-pos (pos n) d h = refl
-put-pos (negsuc n) d h = absurd (omega (arith, ints))
 
 -- two bytes
 two-set : (xs : List ℕ) (a b : ℕ) → length xs ≡ 2 → set (set xs 0 a) 1 b ≡ a ∷ (b ∷ [])

@@ -1,17 +1,16 @@
 -- A word's parts and its form: each follows from the other.
 use mathlib.Core.Path.{_≡_, refl, sym, ap, subst, _∙_}
-use mathlib.Core.Bool.{Bool, true, false, cond, _&&_, _||_}
+use mathlib.Core.Bool.{Bool, true, false, _&&_}
 use mathlib.Core.List.{List, [], _∷_, _++_}
-use mathlib.Core.Logic.{_⊎_, inl, inr, ⊎-elim}
-use Prim.Native.Nat.{ℕ, zero, suc, _+_, _<_, _≤_}
+use mathlib.Core.Logic.{inl, inr}
+use Prim.Native.Nat.{ℕ, suc, _+_, _≤_}
 use native.Mathlib.Omega.{arith}
 use lib.Dec.{eqb, leb}
 use lib.ListN.{length, take, drop}
 use Rattle.std.specs.shelf.Lists.{All}
 use Rattle.std.proofs.shelf.Lists.{take-append-drop, take-at, drop-at, length-take-le}
-use Rattle.std.proofs.shelf.Tests.{eq-eqb, ne-eqb, eqb-true, le-leb, leb-true, leb-false, and-parts, and-from, cond-both}
-use Rattle.std.proofs.shelf.Ways.{tells}
-use Rattle.numbers.specs.Shapes.{isDigit, Digit, digitRun, hasMinus, withoutSign, Shape, wholeWord, decimalWord, textWord, byRest, byDigits, wordOf}
+use Rattle.std.proofs.shelf.Tests.{eq-eqb, ne-eqb, eqb-true, le-leb, leb-true, and-parts, and-from, cond-both}
+use Rattle.numbers.specs.Shapes.{isDigit, Digit, digitRun, hasMinus, withoutSign, Shape, wholeWord, decimalWord, textWord, byRest, wordOf}
 use Rattle.numbers.specs.Parts.{SignText, Parts}
 use Rattle.numbers.proofs.Words.{split}
 
@@ -59,8 +58,8 @@ sign-split (b ∷ bs) =
     by-bool (eqb b 45)
     (λ e. let k = eqb-true b 45 e in rw (e, ne-eqb b 43 (λ f. omega arith)) (45 ∷ [], (refl, ap (λ x. x ∷ bs) k)))
     (λ e. by-bool (eqb b 43)
-      (λ f. rw (e, f) (43 ∷ [], (inr refl, ap (λ x. x ∷ bs) (eqb-true b 43 f))))
-      (λ f. rw (e, f) ([], (inl refl, refl))))
+    (λ f. rw (e, f) (43 ∷ [], (inr refl, ap (λ x. x ∷ bs) (eqb-true b 43 f))))
+    (λ f. rw (e, f) ([], (inl refl, refl))))
 
 -- what a word's form says of the word
 abbrev pub Holds : List ℕ → Shape → Type 0
@@ -73,9 +72,9 @@ by-rest w negative front [] p = p
 by-rest w negative front (b ∷ back) p =
     cond-both (eqb b 46 && eqb (digitRun back) (length back)) (decimalWord negative front back) (textWord w) (Holds w)
     (λ e.
-      let q = and-parts (eqb b 46) (eqb (digitRun back) (length back)) e in
-      let P : ℕ → Type 0 = λ x. Parts w negative front (x ∷ back) in
-      (subst P (eqb-true b 46 (q .0)) p, run-full back (eqb-true (digitRun back) (length back) (q .1))))
+    let q = and-parts (eqb b 46) (eqb (digitRun back) (length back)) e in
+    let P : ℕ → Type 0 = λ x. Parts w negative front (x ∷ back) in
+    (subst P (eqb-true b 46 (q .0)) p, run-full back (eqb-true (digitRun back) (length back) (q .1))))
     (λ e. refl)
 
 pub word-holds : (w : List ℕ) → Holds w (wordOf w)
@@ -86,16 +85,16 @@ word-holds w =
     let len : length (take n body) ≡ n = length-take-le n body (run-le body) in
     cond-both (leb 1 n && leb n 12) (byRest w (hasMinus w) (take n body) (drop n body)) (textWord w) (Holds w)
     (λ e.
-      let q = and-parts (leb 1 n) (leb n 12) e in
-      by-rest w (hasMinus w) (take n body) (drop n body)
-      record {
-        sign = s .0;
-        signed = s .1 .0;
-        digits = run-digits body;
-        some = omega (arith, leb-true 1 n (q .0));
-        few = omega (arith, leb-true n 12 (q .1));
-        all = s .1 .1 ∙ ap (λ l. s .0 ++ l) (sym (take-append-drop n body));
-      })
+    let q = and-parts (leb 1 n) (leb n 12) e in
+    by-rest w (hasMinus w) (take n body) (drop n body)
+    record {
+      sign = s .0;
+      signed = s .1 .0;
+      digits = run-digits body;
+      some = omega (arith, leb-true 1 n (q .0));
+      few = omega (arith, leb-true n 12 (q .1));
+      all = s .1 .1 ∙ ap (λ l. s .0 ++ l) (sym (take-append-drop n body));
+    })
     (λ e. refl)
 
 strip : (negative : Bool) (s front rest : List ℕ) → SignText negative s → All Digit front → 1 ≤ length front → (negative ≡ hasMinus (s ++ (front ++ rest))) × (front ++ rest ≡ withoutSign (s ++ (front ++ rest)))

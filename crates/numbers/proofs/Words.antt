@@ -1,14 +1,13 @@
 -- How a word is taken apart, byte by byte.
-use mathlib.Core.Path.{_≡_, refl, sym, ap, _∙_}
-use mathlib.Core.Bool.{Bool, true, false, cond, _&&_}
+use mathlib.Core.Path.{_≡_, sym, ap, _∙_}
+use mathlib.Core.Bool.{Bool, true, false, cond}
 use mathlib.Core.List.{List, [], _∷_}
 use Prim.Native.Nat.{ℕ, _+_, _-_, _<_, _≤_}
 use native.Mathlib.Omega.{arith}
 use lib.Dec.{eqb}
 use lib.ListN.{length, getD, drop, take}
 use Rattle.std.proofs.shelf.Lists.{at-drop-more, at-drop-all, take-rest}
-use Rattle.std.proofs.shelf.Tests.{eq-eqb, ne-eqb, le-leb, and-left, and-right}
-use Rattle.std.proofs.shelf.Ways.{tells}
+use Rattle.std.proofs.shelf.Tests.{eq-eqb, ne-eqb, le-leb, and-right}
 use Rattle.numbers.specs.Shapes.{isDigit, digitRun, hasMinus, withoutSign, wordOf, byRest, textWord, decimalWord}
 
 pub run-more : (xs : List ℕ) (i : ℕ) → i < length xs → digitRun (drop i xs) ≡ cond (isDigit (getD xs i 0)) (1 + digitRun (drop (i + 1) xs)) 0

@@ -1,6 +1,6 @@
 -- A word of the code with lists in place of its references.
-use Rattle.numbers.specs.declared.form.Word.{Word}
-use Rattle.numbers.specs.declared.form.Word.the-variants.{Whole, Decimal, Text}
+use Rattle.numbers.specs.declared.word.Word.{Word}
+use Rattle.numbers.specs.declared.word.Word.the-variants.{Whole, Decimal, Text}
 use Rattle.numbers.specs.Shapes.{Shape, wholeWord, decimalWord, textWord}
 
 abbrev pub shapeOf : Word → Shape

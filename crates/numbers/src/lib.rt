@@ -2,7 +2,6 @@
 //!
 //! A decimal number of d places is held as a whole number of units of its last place.
 
-pub mod form;
 pub mod law;
 pub mod value;
 pub mod word;

@@ -2,13 +2,12 @@
 
 ghost use mathlib.Core.Bool.{true};
 ghost use mathlib.Core.Path.{_≡_};
-ghost use Prim.Native.Nat.{_+_, _*_, _-_, _^_, _<_, _≤_};
-ghost use lib.IntN.{pos};
+ghost use Prim.Native.Nat.{_+_, _*_, _^_, _<_, _≤_};
 ghost use lib.ListN.{length};
 ghost use Rattle.std.specs.shelf.Lists.{All};
 ghost use Rattle.numbers.specs.Shapes.{Digit};
 ghost use Rattle.numbers.specs.Values.{digitsValue, takesFraction, fractionUnits, signedValue, wholeOf, decimalOf};
-use crate::form::Word;
+use crate::word::Word;
 
 /// The number that digits write.
 fn digits_value(digits: &[u8]) -> u64
@@ -28,7 +27,11 @@ fn signed_value(negative: bool, value: u64) -> i64
     requires { ⌜ value < 10 ^ 18 ⌝ }
     ensures { λ r. ⌜ r ≡ signedValue negative value ⌝ }
 {
-    if negative { -(value as i64) } else { value as i64 }
+    if negative {
+        -(value as i64)
+    } else {
+        value as i64
+    }
 }
 
 /// Ten to the power of `places`, the units of the last place in one whole.
@@ -82,8 +85,15 @@ pub fn decimal_value(bytes: &[u8], places: u8) -> Option<i64>
     ensures { λ r. ⌜ r ≡ decimalOf (now (bytes .entry)) places ⌝ }
 {
     match Word::of(bytes) {
-        Word::Whole { negative, digits } => Some(signed_value(negative, whole_units(digits, places))),
-        Word::Decimal { negative, digits, fraction } => {
+        Word::Whole { negative, digits } => Some(signed_value(
+            negative,
+            whole_units(digits, places),
+        )),
+        Word::Decimal {
+            negative,
+            digits,
+            fraction,
+        } => {
             if !takes_fraction(fraction, places) {
                 return None;
             }

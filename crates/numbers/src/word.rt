@@ -1,11 +1,30 @@
-//! What form a word has.
+//! The words of a line by their form.
 
 ghost use mathlib.Core.Path.{_≡_};
 ghost use Prim.Native.Nat.{_≤_};
 ghost use lib.ListN.{length};
 ghost use Rattle.numbers.specs.Shapes.{digitRun, hasMinus, withoutSign, wordOf};
 ghost use Rattle.numbers.specs.Forms.{shapeOf};
-use crate::form::Word;
+
+/// A word, sorted by its form; the cases hold parts of the line.
+#[derive(Clone, Copy)]
+pub enum Word<'l> {
+    /// An optional sign, then 1 to 12 digits.
+    Whole {
+        negative: bool,
+        digits: &'l [u8],
+    },
+    /// The same, a point, and the digits after it.
+    Decimal {
+        negative: bool,
+        digits: &'l [u8],
+        fraction: &'l [u8],
+    },
+    /// Any other word.
+    Text {
+        bytes: &'l [u8],
+    },
+}
 
 /// The most digits before the point: with six places after it, the value fits an `i64`.
 const MOST_DIGITS: usize = 12;
@@ -47,7 +66,11 @@ impl<'l> Word<'l> {
         }
         match rest {
             [] => Word::Whole { negative, digits },
-            [b'.', fraction @ ..] if digit_run(fraction) == fraction.len() => Word::Decimal { negative, digits, fraction },
+            [b'.', fraction @ ..] if digit_run(fraction) == fraction.len() => Word::Decimal {
+                negative,
+                digits,
+                fraction,
+            },
             _ => Word::Text { bytes },
         }
     }

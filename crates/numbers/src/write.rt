@@ -38,7 +38,11 @@ fn unsigned_len(value: u64, places: u8) -> usize
     ensures { λ r. ⌜ r ≡ length (unsignedText value places) ⌝ }
 {
     let digits = digit_count(whole_part(value, places));
-    if places == 0 { digits } else { digits + 1 + usize::from(places) }
+    if places == 0 {
+        digits
+    } else {
+        digits + 1 + usize::from(places)
+    }
 }
 
 /// How long the text of the value is, with this many places after the point.

@@ -2,3 +2,4 @@ pub mod Types
 pub mod Tables
 pub mod Fields
 pub mod Reads
+pub mod Values

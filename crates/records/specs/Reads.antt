@@ -16,7 +16,6 @@ use Rattle.records.specs.declared.field.Fault.{Fault}
 use Rattle.records.specs.declared.field.Fault.the-variants as fault
 use Rattle.records.specs.declared.record.Record.{Record}
 use Rattle.records.specs.declared.record.Record.the-variants as rec
-use Rattle.records.specs.declared.values.Values.{Values}
 use Rattle.records.specs.Fields.{fieldValue}
 use Rattle.records.specs.Tables.{fieldsOf}
 
@@ -62,6 +61,3 @@ Fine fs = All (λ f. f .places ≤ 6) fs
 abbrev pub Told : Result ℕ Refusal → Result (List Value) Refusal → List Value → Type 0
 Told (Ok n) s out = s ≡ Ok (take n out)
 Told (Err e) s out = s ≡ Err e
-
-abbrev pub valuesOf : Values → List Value
-valuesOf v = take (v .len) (v .items)

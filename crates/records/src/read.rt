@@ -5,10 +5,12 @@ ghost use Prim.Native.Nat.{_≤_};
 ghost use lib.IntN.{pos};
 ghost use lib.ListN.{length, take};
 ghost use Rattle.std.specs.Results.{Cases};
+ghost use Rattle.std.specs.Vec.{made};
 ghost use Rattle.std.specs.declared.result.Result.the-variants.{Ok, Err};
 ghost use Rattle.lines.specs.Words.{words as wordsIn};
 ghost use Rattle.records.specs.Fields.{isNameByte, allNameBytes, isCpf, inBounds, numberIf, dayIf, textIf, dateNumber, lastDay, fieldValue};
-ghost use Rattle.records.specs.Reads.{faultAt, readOn, countFits, readRecord, isH1, Fine, Told, valuesOf};
+ghost use Rattle.records.specs.Reads.{faultAt, readOn, countFits, readRecord, isH1, Fine, Told};
+ghost use Rattle.records.specs.Values.{valuesOf};
 use crate::field::Fault;
 use crate::field::Field;
 use crate::field::Form;
@@ -96,7 +98,8 @@ fn text(ok: bool, word: &[u8]) -> Result<Value, Fault>
     if ok { Ok(Value::Text(Name::of(word))) } else { Err(Fault::Form) }
 }
 
-fn date_number(value: Value) -> u32
+/// A year, month, day, hour, minute or second as a number; 0 for what is none.
+pub fn date_number(value: Value) -> u32
     ensures { λ r. ⌜ r ≡ dateNumber value ⌝ }
 {
     match value {
@@ -149,6 +152,7 @@ impl Fault {
 fn read_fields(line: usize, words: &[u8], fields: &[Field], out: &mut [Value]) -> Result<usize, Refusal>
     requires { ⌜ length (now fields) ≤ length (now out) ⌝ ∗ ⌜ length (now fields) ≤ 22 ⌝ ∗ ⌜ Fine (now fields) ⌝ }
     ensures told { λ r. ⌜ Told r (readOn line (now (fields .entry)) (wordsIn (now (words .entry))) []) (now (out .exit)) ⌝ }
+    ensures inside { λ r. ⌜ made r (λ n. n ≤ 22) ⌝ }
 {
     let mut rest = words;
     for (i, field) in fields.iter().enumerate() {

@@ -1,4 +1,3 @@
-use native.Mathlib.Omega.{arith}
 use Rattle.numbers.proofs.Digits as digits
 use Rattle.numbers.proofs.Taken.{whole-parts, decimal-parts}
 use borrow.Author.Needs.{needs}

@@ -32,8 +32,7 @@ loop-digit-again c =
     let i = c .loop-digit .digit-index in
     let xs = c .args .digits .now in
     let e : c .from .result ≡ getD xs i 0 - 48 = search needs in
-    let h = digit (need.at·loop-digit-again c .In-loop-digit) in
-    (
+    let h = digit (need.at·loop-digit-again c .In-loop-digit) in (
       ap (λ m. digitsAfter (n * 10 + m) (drop (i + 1) xs)) e ∙ sym (digits.after-more n xs i (c .loop-digit-test .taken)) ∙ c .loop-digit .inv .0,
       digits.digit-more n i (c .from .result) (c .loop-digit .inv .1) (omega arith),
     )

@@ -1,6 +1,4 @@
-use mathlib.Core.Path.{_≡_}
 use lib.ListN.{length}
-use native.Mathlib.Omega.{arith}
 use Rattle.std.proofs.shelf.Tests.{leb-true}
 use Rattle.numbers.proofs.Digits as digits
 use Rattle.numbers.proofs.value.fraction_units.Needs as need

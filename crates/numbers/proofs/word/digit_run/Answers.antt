@@ -1,7 +1,6 @@
 use native.Mathlib.Omega.{arith}
 use Rattle.std.proofs.shelf.Ways.{tells}
 use Rattle.numbers.proofs.Words.{run-more, run-all}
-use borrow.Author.Needs.{needs}
 use Rattle.numbers.proofs.word.digit_run.Needs as need
 
 pub returns-then-not-is-ascii-digit : need.returns-then-not-is-ascii-digit

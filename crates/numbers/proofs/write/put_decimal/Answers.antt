@@ -1,9 +1,8 @@
-use mathlib.Core.Path.{_≡_, refl, sym, ap, _∙_}
+use mathlib.Core.Path.{ap, _∙_}
 use native.Mathlib.Omega.{arith}
 use lib.ListN.{length}
 use mir.Syntax.{w64}
 use Rattle.std.proofs.shelf.Signed.{toZ-ofZ}
-use borrow.Author.Needs.{needs}
 use Rattle.numbers.specs.Texts.{textOf}
 use Rattle.numbers.proofs.Puts as puts
 use Rattle.numbers.proofs.write.put_decimal.Needs as need

@@ -1,7 +1,7 @@
-use mathlib.Core.Path.{_≡_, sym, ap, _∙_}
+use mathlib.Core.Path.{_≡_, ap, _∙_}
 use Prim.Native.Nat.{_-_}
 use native.Mathlib.Omega.{arith}
-use lib.IntN.{ℤ, pos, natAbs}
+use lib.IntN.{pos, natAbs}
 use lib.ListN.{length, length-set}
 use lib.Signed.{_<ℤ_}
 use mir.Syntax.{w64}
@@ -19,7 +19,7 @@ returns-then-value-lt0 c =
     let abs : c .unsigned-abs .result ≡ natAbs v = c .unsigned-abs .ensures .value ∙ ap natAbs e in
     record {
       is =
-        puts.put-neg v (c .args .places) (c .put-unsigned-start .result) (length (c .args .field .now)) (c .put-unsigned-start .last .field) neg
-        (told .is ∙ ap (λ n. unsignedText n (c .args .places)) abs) (c .pre) (omega arith) (told .inside) .1;
+          puts.put-neg v (c .args .places) (c .put-unsigned-start .result) (length (c .args .field .now)) (c .put-unsigned-start .last .field) neg
+          (told .is ∙ ap (λ n. unsignedText n (c .args .places)) abs) (c .pre) (omega arith) (told .inside) .1;
       inside = omega (arith, told .inside, length-set (c .put-unsigned-start .last .field) (c .put-unsigned-start .result - 1) 45);
     }

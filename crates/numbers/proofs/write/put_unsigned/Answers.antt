@@ -1,13 +1,12 @@
 use mathlib.Core.Path.{_≡_, refl, sym, ap, _∙_}
-use mathlib.Core.List.{_++_}
-use Prim.Native.Nat.{_+_, _-_, _/_, _%_, _^_, _<_, _≤_}
+use mathlib.Core.List.{_∷_, _++_}
+use Prim.Native.Nat.{_+_, _-_, _/_, _%_, _≤_}
 use native.Mathlib.Omega.{arith}
-use lib.ListN.{length, drop, set, length-set}
+use lib.ListN.{length, drop, length-set}
 use Rattle.std.specs.Written.{decimal}
 use Rattle.std.proofs.shelf.Lists.{drop-all, append-nil}
 use Rattle.numbers.specs.Texts.{lastDigits}
 use Rattle.numbers.proofs.Puts as puts
-use borrow.Author.Needs.{needs}
 use Rattle.numbers.proofs.write.put_unsigned.Needs as need
 use Rattle.numbers.proofs.write.put_unsigned.Needs.{In-back, At-front, then-places-gt0, else-places-gt0}
 
@@ -27,8 +26,7 @@ pub back-again : need.back-again
 back-again c =
     let p = back-room c in
     let x = 48 + c .back .rest % 10 in
-    let k : c .back .start ≤ length (c .back .field) = omega arith in
-    (
+    let k : c .back .start ≤ length (c .back .field) = omega arith in (
       ap (λ l. lastDigits (c .back .left - 1) (c .back .rest / 10) ++ l) (puts.back (c .back .field) (c .back .start) x p k) ∙ sym (puts.last-step (c .back .left) (c .back .rest) (drop (c .back .start) (c .back .field)) (c .back-test .taken)) ∙ c .back .inv .0,
       omega (arith, length-set (c .back .field) (c .back .start - 1) x),
       puts.div-step (c .back .left) (c .back .rest) _ (c .back-test .taken) (c .back .inv .2),
@@ -44,20 +42,18 @@ front-holds c =
     let n = puts.div-done (c .back .left) (c .back .rest) _ (c .back-test .left) (c .back .inv .2) in
     let acc = puts.last-done (c .back .left) (c .back .rest) (drop (c .back .start) (c .back .field)) _ (c .back-test .left) (c .back .inv .0) in
     elim (c .if-places-gt0 .came) [
-      then-places-gt0 w ↦
-        let p : 1 ≤ c .back .start = omega (arith, puts.room-places (c .args .value) (c .args .places) (omega arith) (w .if-places-gt0 .taken)) in
-        let e : drop (c .if-places-gt0 .start) (c .if-places-gt0 .field) ≡ _ = rw (w .start-is, w .field-is) (puts.back (c .back .field) (c .back .start) 46 p (omega arith)) in
-        (
-          ap (λ l. decimal (c .back .rest) ++ l) e ∙ puts.front-some (c .back .rest) (c .args .places) (c .args .value) _ (w .if-places-gt0 .taken) n acc,
-          omega (arith, w .start-is, ap length (w .field-is), length-set (c .back .field) (c .back .start - 1) 46),
-          omega arith,
-        )
-      | else-places-gt0 w ↦
-        (
-          rw (w .start-is, w .field-is) (puts.front-none (c .back .rest) (c .args .places) (c .args .value) _ (w .if-places-gt0 .left) n acc),
-          omega (arith, w .start-is, ap length (w .field-is)),
-          omega arith,
-        )
+      | then-places-gt0 w ↦
+          let p : 1 ≤ c .back .start = omega (arith, puts.room-places (c .args .value) (c .args .places) (omega arith) (w .if-places-gt0 .taken)) in
+          let e : drop (c .if-places-gt0 .start) (c .if-places-gt0 .field) ≡ 46 ∷ drop (c .back .start) (c .back .field) = rw (w .start-is, w .field-is) (puts.back (c .back .field) (c .back .start) 46 p (omega arith)) in (
+            ap (λ l. decimal (c .back .rest) ++ l) e ∙ puts.front-some (c .back .rest) (c .args .places) (c .args .value) _ (w .if-places-gt0 .taken) n acc,
+            omega (arith, w .start-is, ap length (w .field-is), length-set (c .back .field) (c .back .start - 1) 46),
+            omega arith,
+          )
+      | else-places-gt0 w ↦ (
+        rw (w .start-is, w .field-is) (puts.front-none (c .back .rest) (c .args .places) (c .args .value) _ (w .if-places-gt0 .left) n acc),
+        omega (arith, w .start-is, ap length (w .field-is)),
+        omega arith,
+      )
     ]
 
 front-room : (c : At-front) → 1 ≤ c .front .start
@@ -72,8 +68,7 @@ index-field-start-in-front c = omega (arith, front-room (need.at·index-field-st
 pub front-again : need.front-again
 front-again c =
     let p = front-room (need.at·front-again c .At-front) in
-    let x = 48 + c .front .rest % 10 in
-    (
+    let x = 48 + c .front .rest % 10 in (
       ap (λ l. decimal (c .front .rest / 10) ++ l) (puts.back (c .front .field) (c .front .start) x p (c .front .inv .1)) ∙ sym (puts.front-step (c .front .rest) (drop (c .front .start) (c .front .field)) (c .front-test .taken) (omega arith)) ∙ c .front .inv .0,
       omega (arith, length-set (c .front .field) (c .front .start - 1) x),
       omega arith,

@@ -1,6 +1,6 @@
 use native.Mathlib.Omega.{arith}
 use lib.ListN.{length}
-use mathlib.Core.Path.{_≡_, ap, _∙_}
+use mathlib.Core.Path.{_≡_, ap}
 use Prim.Native.Nat.{_/_, _^_}
 use Rattle.std.specs.Written.{decimal}
 use Rattle.numbers.proofs.Lengths as lengths

@@ -32,7 +32,7 @@ pub returns-in-rest : need.returns-in-rest
 returns-in-rest c =
     let fs = c .args .fields .now in
     let i = c .loop-i .i in
-    record { told = sym (c .loop-i .inv .0) ∙ laws.no-word (c .args .line) fs i (take i (c .loop-i .out)) (at fs i) (c .loop-i-test .taken) (at-is fs i (c .loop-i-test .taken)) _ (c .in-rest .ensures tt .words) }
+    record { told = sym (c .loop-i .inv .0) ∙ laws.no-word (c .args .line) fs i (take i (c .loop-i .out)) (at fs i) (c .loop-i-test .taken) (at-is fs i (c .loop-i-test .taken)) _ (c .in-rest .ensures tt .words); inside = omega arith }
 
 pub read-field-requires : need.read-field-requires
 read-field-requires c κs = all-getD (λ f. f .places ≤ 6) (c .args .fields .now) (c .loop-i .i) none (c .loop-i-test .taken) (c .pre .1 .1)
@@ -49,7 +49,7 @@ returns-in-Err c =
     let told = c .in-Err .ensures tt ∙ ap (fieldValue (at fs i) (c .in-Some .word .now)) (part out i) in
     let bad = laws.bad-word (c .args .line) fs i (take i out) (at fs i) (c .loop-i-test .taken) (at-is fs i (c .loop-i-test .taken)) _ (c .in-Some .word .now) _ (c .in-Err .fault) (c .in-Some .ensures tt .words) told in
     let n : length (take i out) ≡ i = length-take-le i out (omega arith) in
-    record { told = sym (c .loop-i .inv .0) ∙ bad ∙ ap (λ k. Err (faultAt (c .args .line) (k + 2) (c .in-Err .fault))) n ∙ ap (λ e. Err e) (sym (c .at .ensures)) }
+    record { told = sym (c .loop-i .inv .0) ∙ bad ∙ ap (λ k. Err (faultAt (c .args .line) (k + 2) (c .in-Err .fault))) n ∙ ap (λ e. Err e) (sym (c .at .ensures)); inside = tt }
 
 pub loop-i-again : need.loop-i-again
 loop-i-again c =
@@ -70,4 +70,4 @@ returns c =
     let fs = c .args .fields .now in
     let out = c .loop-i .out in
     let end : c .loop-i .i ≡ length fs = omega arith in
-    record { told = sym (c .loop-i .inv .0) ∙ laws.no-field (c .args .line) fs (c .loop-i .i) _ (take (c .loop-i .i) out) (c .loop-i-test .left) ∙ ap (λ n. Ok (take n out)) end }
+    record { told = sym (c .loop-i .inv .0) ∙ laws.no-field (c .args .line) fs (c .loop-i .i) _ (take (c .loop-i .i) out) (c .loop-i-test .left) ∙ ap (λ n. Ok (take n out)) end; inside = c .pre .1 .0 }

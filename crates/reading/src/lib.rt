@@ -1,0 +1,3 @@
+//! Reading: a text is checked line by line from its first byte to its last, and only then are its rows stored.
+pub mod build;
+pub mod stage;
