@@ -1,4 +1,5 @@
 //! What a prediction sheet holds: rows, and the header.
+pub mod flags;
 pub mod header;
 pub mod name;
 use calendar::instant::Instant;

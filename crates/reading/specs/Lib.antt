@@ -1,2 +1,5 @@
 pub mod Order
 pub mod Builds
+pub mod Scans
+pub mod Ends
+pub mod Texts

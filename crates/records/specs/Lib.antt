@@ -3,3 +3,4 @@ pub mod Tables
 pub mod Fields
 pub mod Reads
 pub mod Values
+pub mod Ranges

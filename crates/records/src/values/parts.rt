@@ -1,11 +1,20 @@
 //! The values of a record, one by one.
+ghost use mathlib.Core.List.{[]};
 ghost use mathlib.Core.Path.{_≡_};
 ghost use Rattle.records.specs.Values.{valuesOf, valueAt, numberAt, nameAt};
 use crate::field::Value;
+use crate::values::MOST_FIELDS;
 use crate::values::Values;
 use model::name::Name;
 
 impl Values {
+    /// No values.
+    pub fn none() -> Values
+        ensures { λ r. ⌜ valuesOf r ≡ [] ⌝ }
+    {
+        Values { items: [Value::Number(0); MOST_FIELDS], len: 0 }
+    }
+
     /// The value at a place counted from 0; the number 0 where there is none.
     pub fn get(&self, i: usize) -> Value
         ensures { λ r. ⌜ r ≡ valueAt (valuesOf (now (self .entry))) i ⌝ }

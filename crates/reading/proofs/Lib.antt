@@ -1,0 +1,3 @@
+pub mod RowChecks
+pub mod StepLaws
+pub mod TextLaws
