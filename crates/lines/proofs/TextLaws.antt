@@ -8,12 +8,15 @@ use lib.Dec.{eqb, leb, ltb}
 use lib.ListN.{length, take, drop}
 use Rattle.std.specs.declared.option.Option.the-variants.{Some, None}
 use Rattle.std.specs.declared.result.Result.the-variants.{Ok, Err}
-use Rattle.std.proofs.shelf.Lists.{length-push, length-take-le}
+use denote.Ref.{RefT}
+use Rattle.std.specs.Options.{Cases}
+use Rattle.std.specs.declared.option.Option.{Option}
+use Rattle.std.proofs.shelf.Lists.{length-push, length-take-le, drop-drop}
 use Rattle.std.proofs.shelf.Tests.{cases-bool, cond-both}
 use Rattle.refusal.specs.declared.Refusal.{Refusal}
 use Rattle.lines.specs.declared.scan.LineEnd.{LineEnd}
 use Rattle.lines.specs.declared.scan.LineEnd.the-variants as ends
-use Rattle.lines.specs.Lines.{ended, lineEnd, Inside, Answer, lineBy, nextLine}
+use Rattle.lines.specs.Lines.{ended, lineEnd, Inside, Answer, lists, lineBy, nextLine, bytesTaken, linesTaken}
 use Rattle.lines.specs.Texts.{Ending, atLine, forbidden, tooLong, Text, onLine, endsBy, endsAfter, textOn, textOf, endingRefusal}
 
 abbrev AtLeast : ℕ → LineEnd → Type 0
@@ -120,3 +123,18 @@ bad-rest n bs r ends.TooLong p = record { how = tooLong; here = refl; refusal = 
 pub bad-line : (n : ℕ) (bs : List ℕ) (r : Refusal) → nextLine n bs ≡ Err r → Ends n (textOf bs) r
 bad-line n [] r p = never (cc)
 bad-line n (b ∷ bs) r p = let q = bad-rest n (b ∷ bs) r (lineEnd 0 (b ∷ bs)) p in record { how = q .how; here = text-is b bs ∙ q .here; refusal = q .refusal }
+
+-- the same by an answer with references in place of the bytes
+pub by-answer : (n at to : ℕ) (xs : List ℕ) (o : Option (RefT (List ℕ))) → lists (Ok o) ≡ nextLine n (drop at xs) → to ≡ at + bytesTaken (lists (Ok o))
+    → Cases o (textOf (drop at xs) .lines ≡ []) (λ l. textOf (drop at xs) ≡ onLine (l .now) (textOf (drop to xs)))
+by-answer n at to xs None p e = ap (λ t. t .lines) (no-line n (drop at xs) (sym p))
+by-answer n at to xs (Some l) p e =
+    some-line n (drop at xs) (l .now) (sym p) ∙ ap (λ b. onLine (l .now) (textOf b)) (drop-drop (length (l .now) + 1) at xs ∙ ap (λ k. drop k xs) (sym e))
+
+pub counts-answer : (m n : ℕ) (o : Option (RefT (List ℕ))) → m ≡ n + linesTaken (lists (Ok o)) → Cases o (0 ≤ 0) (λ _. m ≡ n + 1)
+counts-answer m n None e = omega arith
+counts-answer m n (Some l) e = e
+
+pub moves-answer : (m n : ℕ) (o : Option (RefT (List ℕ))) → m ≡ n + bytesTaken (lists (Ok o)) → Cases o (0 ≤ 0) (λ _. n < m)
+moves-answer m n None e = omega arith
+moves-answer m n (Some l) e = omega arith

@@ -1,6 +1,9 @@
 //! The lines of a text, one after another.
 ghost use mathlib.Core.Path.{_≡_};
-ghost use Prim.Native.Nat.{_+_, _≤_};
+ghost use mathlib.Core.List.{[]};
+ghost use Prim.Native.Nat.{_+_, _≤_, _<_};
+ghost use Rattle.std.specs.Options.{Cases};
+ghost use Rattle.lines.specs.Texts.{textOf, onLine};
 ghost use lib.ListN.{length, drop};
 ghost use Rattle.lines.specs.Lines.{nextLine, lists, bytesTaken, linesTaken};
 use crate::scan::LineEnd;
@@ -54,6 +57,19 @@ impl<'f> Lines<'f> {
             }
             LineEnd::Forbidden => Err(Refusal::ForbiddenByte { line: self.line + 1 }),
             LineEnd::TooLong => Err(Refusal::TooLong { line: self.line + 1 }),
+        }
+    }
+
+    /// The next line without its end; None where no line follows that is one.
+    pub fn next_line(&mut self) -> Option<&'f [u8]>
+        ensures text { λ r. ⌜ Cases r (textOf (drop (now (self .entry) .at) (now (now (self .entry) .file))) .lines ≡ []) (λ l. textOf (drop (now (self .entry) .at) (now (now (self .entry) .file))) ≡ onLine (now l) (textOf (drop (now (self .exit) .at) (now (now (self .entry) .file))))) ⌝ }
+        ensures file { λ _. ⌜ now (self .exit) .file ≡ now (self .entry) .file ⌝ }
+        ensures line { λ r. ⌜ Cases r (0 ≤ 0) (λ _. now (self .exit) .line ≡ now (self .entry) .line + 1) ⌝ }
+        ensures further { λ r. ⌜ Cases r (0 ≤ 0) (λ _. now (self .entry) .at < now (self .exit) .at) ⌝ }
+    {
+        match self.next() {
+            Ok(line) => line,
+            Err(_) => None,
         }
     }
 }

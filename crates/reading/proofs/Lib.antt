@@ -1,3 +1,4 @@
 pub mod RowChecks
 pub mod StepLaws
+pub mod StoreLaws
 pub mod TextLaws

@@ -3,3 +3,4 @@ pub mod Builds
 pub mod Scans
 pub mod Ends
 pub mod Texts
+pub mod Stores
