@@ -6,13 +6,14 @@ use Prim.Native.Nat.{ℕ, _+_, _<_, _≤_}
 use native.Mathlib.Omega.{arith}
 use lib.Dec.{eqb}
 use lib.ListN.{length, getD, drop}
-use Rattle.std.specs.declared.option.Option.the-variants.{Some}
+use Rattle.std.specs.declared.option.Option.{Option}
+use Rattle.std.specs.declared.option.Option.the-variants.{Some, None}
 use Rattle.std.proofs.shelf.Lists.{at-drop-more, at-drop-all}
 use Rattle.std.proofs.shelf.Tests.{cases-bool, eqb-true, eq-eqb, ne-eqb}
 use Rattle.calendar.specs.declared.instant.Instant.{Instant}
 use Rattle.model.specs.declared.Row.{Row}
 use Rattle.cells.specs.declared.summary.Summary.{Summary}
-use Rattle.cells.specs.Cells.{stepSeconds, everyStep, intervalOf, lastOf, cellsOf, cellsIf, started, nextInterval, extended, extendedBy, cellsBy}
+use Rattle.cells.specs.Cells.{stepSeconds, everyStep, intervalOf, lastOf, cellsOf, cellsIf, started, nextInterval, extended, extendedBy, cellsBy, summaryIf, summaryWith, countIn}
 
 by-bool : {P : Type 0} (b : Bool) → (b ≡ true → P) → (b ≡ false → P) → P
 by-bool b f g = ⊎-elim f g (cases-bool b)
@@ -74,3 +75,16 @@ by-all s rows i h = at-drop-all (extendedBy s) rows i h
 pub cells-from : (rows : List Row) (x : Row) → 0 < length rows → x ≡ getD rows 0 x → Some (cellsBy (extendedBy (started x) (drop 1 rows))) ≡ cellsIf rows
 cells-from [] x h e = absurd (omega arith)
 cells-from (r ∷ rs) x h e = ap (λ y. Some (cellsBy (extendedBy (started y) rs))) e ∙ ap Some (cells-by r rs)
+
+-- one row more at the end
+pub summary-push : (rs : List Row) (r : Row) → summaryIf (rs ++ (r ∷ [])) ≡ Some (summaryWith (summaryIf rs) r)
+summary-push [] r = refl
+summary-push (x ∷ rs) r = ap (λ s. Some s) (extendedBy-append (started x) rs r)
+
+pub cells-by-summary : (rs : List Row) (s : Summary) → summaryIf rs ≡ Some s → cellsIf rs ≡ Some (cellsBy s)
+cells-by-summary [] s e = absurd (let z : _≡_ {A = ℕ} 0 1 = cc in omega arith)
+cells-by-summary (r ∷ rs) s e = let f : extendedBy (started r) rs ≡ s = cc in ap Some (sym (cells-by r rs) ∙ ap cellsBy f)
+
+pub count-summary : (rs : List Row) → countIn (summaryIf rs) ≡ length rs
+count-summary [] = refl
+count-summary (r ∷ rs) = let h = count-by (started r) rs in omega arith

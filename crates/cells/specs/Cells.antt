@@ -62,3 +62,16 @@ extendedBy s (r ∷ rs) = extendedBy (extended s r) rs
 
 abbrev pub cellsBy : Summary → Cells
 cellsBy s = record { count = s .count; start = daySecond (s .first); end = daySecond (s .last); interval = s .interval }
+
+-- the summary of rows; None where there is no row
+abbrev pub summaryIf : List Row → Option Summary
+summaryIf [] = None
+summaryIf (r ∷ rs) = Some (extendedBy (started r) rs)
+
+abbrev pub summaryWith : Option Summary → Row → Summary
+summaryWith None r = started r
+summaryWith (Some m) r = extended m r
+
+abbrev pub countIn : Option Summary → ℕ
+countIn None = 0
+countIn (Some m) = m .count

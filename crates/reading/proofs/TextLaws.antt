@@ -12,6 +12,7 @@ use Rattle.std.proofs.shelf.Lists.{drop-drop}
 use Rattle.refusal.specs.declared.Refusal.{Refusal}
 use Rattle.model.specs.declared.Row.{Row}
 use Rattle.cells.specs.declared.summary.Summary.{Summary}
+use Rattle.cells.specs.Cells.{countIn, summaryWith}
 use denote.Ref.{RefT}
 use Rattle.std.proofs.shelf.Tests.{le-ltb}
 use Rattle.lines.specs.Lines.{nextLine, lists, linesTaken, bytesTaken}
@@ -27,7 +28,7 @@ use Rattle.reading.specs.declared.stage.Stage.{Stage}
 use Rattle.reading.specs.declared.stage.Part.{Part}
 use Rattle.reading.specs.Order.{nextStage}
 use Rattle.reading.specs.Builds.{rowOf}
-use Rattle.reading.specs.Scans.{started, rowCountIn, rowCount, rowRefusal, summaryWith, withRow, onOk, taken, takenIf, atStage, contentStep, byStage, byRecord, lineStep}
+use Rattle.reading.specs.Scans.{started, rowCount, rowRefusal, withRow, onOk, taken, takenIf, atStage, contentStep, byStage, byRecord, lineStep}
 use Rattle.reading.specs.Ends.{endRefusal}
 use Rattle.reading.specs.Texts.{scanEndBy, onScan, scanLines, scanFrom, scanOf}
 
@@ -37,7 +38,7 @@ never z = absurd (omega arith)
 same-count : (k : ℕ) (s u : Scan) → rowCount s ≤ k → _≡_ {A = Result Scan Refusal} (Ok s) (Ok u) → rowCount u ≤ k
 same-count k s u h p = let e : s ≡ u = cc in let f = ap rowCount e in omega arith
 
-count-with : (m : Option Summary) (r : Row) → rowCountIn (Some (summaryWith m r)) ≤ rowCountIn m + 1
+count-with : (m : Option Summary) (r : Row) → countIn (Some (summaryWith m r)) ≤ countIn m + 1
 count-with None r = omega arith
 count-with (Some m) r = omega arith
 

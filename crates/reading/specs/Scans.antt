@@ -51,12 +51,8 @@ started p room =
       summary = None;
     }
 
-abbrev pub rowCountIn : Option Summary → ℕ
-rowCountIn None = 0
-rowCountIn (Some m) = m .count
-
 abbrev pub rowCount : Scan → ℕ
-rowCount s = rowCountIn (s .summary)
+rowCount s = cells.countIn (s .summary)
 
 abbrev pub isFullAt : Option ℕ → ℕ → Bool
 isFullAt None n = false
@@ -75,12 +71,8 @@ rowRefusalAfter line s r (Some before) =
 abbrev pub rowRefusal : ℕ → Scan → Row → Result (Unit {0}) Refusal
 rowRefusal line s r = rowRefusalAfter line s r (s .summary)
 
-abbrev pub summaryWith : Option Summary → Row → Summary
-summaryWith None r = cells.started r
-summaryWith (Some m) r = cells.extended m r
-
 abbrev pub withRow : Scan → Row → Scan
-withRow s r = record { part = s .part; room = s .room; stage = s .stage; header = s .header; span = s .span; summary = Some (summaryWith (s .summary) r) }
+withRow s r = record { part = s .part; room = s .room; stage = s .stage; header = s .header; span = s .span; summary = Some (cells.summaryWith (s .summary) r) }
 
 abbrev pub withHeader : Scan → Header → Span → Scan
 withHeader s h p = record { part = s .part; room = s .room; stage = s .stage; header = h; span = p; summary = s .summary }
