@@ -125,9 +125,10 @@ pub line-step : (n : ℕ) (text : List ℕ) (s u : Scan) → lineStep n text s �
 line-step n text s u q = record-step n text s u (recordOf text) q
 
 -- the scan tells of the rows what their summary tells, and they fit its room
-pub record Tracks (s : Scan) (rows : List Row) : Type 0 where
+pub record Tracks (s : Scan) (rows : List Row) (given : Option ℕ) : Type 0 where
   pub summary : s .summary ≡ summaryIf rows
-  pub fits : (room : ℕ) → s .room ≡ Some room → length rows ≤ room
+  pub room : s .room ≡ given
+  pub fits : (room : ℕ) → given ≡ Some room → length rows ≤ room
 
 unit-ok : (a : Result (Unit {0}) Refusal) (b : Bool) (e : Refusal) → cond b (Err e) a ≡ Ok tt → b ≡ false
 unit-ok a true e q = never (cc)
@@ -149,53 +150,54 @@ after-ok n s r (Some before) q =
 not-full : (room k : ℕ) → isFullAt (Some room) k ≡ false → k < room
 not-full room k e = leb-false room k e
 
-fits-more : (n : ℕ) (s : Scan) (rows : List Row) (r : Row) → Tracks s rows → rowRefusal n s r ≡ Ok tt → (room : ℕ) → s .room ≡ Some room → length (rows ++ (r ∷ [])) ≤ room
-fits-more n s rows r t q room e =
+fits-more : (n : ℕ) (s : Scan) (rows : List Row) (r : Row) (given : Option ℕ) → Tracks s rows given → rowRefusal n s r ≡ Ok tt → (room : ℕ) → given ≡ Some room → length (rows ++ (r ∷ [])) ≤ room
+fits-more n s rows r given t q room e =
     let full = unit-ok (Ok tt) (isFullAt (s .room) (rowCount s)) (TooManyRows n) (after-ok n s r (s .summary) q) in
-    let lt = not-full room (rowCount s) (ap (λ o. isFullAt o (rowCount s)) (sym e) ∙ full) in
+    let lt = not-full room (rowCount s) (ap (λ o. isFullAt o (rowCount s)) (sym (t .room ∙ e)) ∙ full) in
     let c : rowCount s ≡ length rows = ap countIn (t .summary) ∙ count-summary rows in
     let l = length-append rows (r ∷ []) in
     omega arith
 
-tracks-part : (n : ℕ) (p : RowPart) (s u : Scan) (rows : List Row) → Tracks s rows → Step n p s u → ((k : ℕ) → length rows ≤ k → summaryIf (withPart rows p) ≡ summaryIf rows → length (withPart rows p) ≤ k) → Tracks u (withPart rows p)
-tracks-part n p s u rows t (same e f g) h =
-    record { summary = e ∙ t .summary ∙ sym (g rows); fits = λ room q. h room (t .fits room (sym f ∙ q)) (g rows) }
-tracks-part n p s u rows t (added r e f g k) h =
+tracks-part : (n : ℕ) (p : RowPart) (s u : Scan) (rows : List Row) (given : Option ℕ) → Tracks s rows given → Step n p s u → ((k : ℕ) → length rows ≤ k → summaryIf (withPart rows p) ≡ summaryIf rows → length (withPart rows p) ≤ k) → Tracks u (withPart rows p) given
+tracks-part n p s u rows given t (same e f g) h =
+    record { summary = e ∙ t .summary ∙ sym (g rows); room = f ∙ t .room; fits = λ room q. h room (t .fits room q) (g rows) }
+tracks-part n p s u rows given t (added r e f g k) h =
     record {
       summary = g ∙ ap (λ m. Some (summaryWith m r)) (t .summary) ∙ sym (summary-push rows r) ∙ ap (λ z. summaryIf (withPart rows z)) (sym e);
-      fits = λ room q. let a = fits-more n s rows r t f room (sym k ∙ q) in let b = ap (λ z. length (withPart rows z)) e in omega arith;
+      room = k ∙ t .room;
+      fits = λ room q. let a = fits-more n s rows r given t f room q in let b = ap (λ z. length (withPart rows z)) e in omega arith;
     }
 
 -- rows with the same summary are as many
 same-length : (rows more : List Row) (k : ℕ) → length rows ≤ k → summaryIf more ≡ summaryIf rows → length more ≤ k
 same-length rows more k h e = let a = sym (count-summary more) ∙ ap countIn e ∙ count-summary rows in omega arith
 
-pub tracks-line : (n : ℕ) (text : List ℕ) (s u : Scan) (rows : List Row) → Tracks s rows → lineStep n text s ≡ Ok u → Tracks u (rowsWith n rows text)
-tracks-line n text s u rows t q = tracks-part n (partOf n text) s u rows t (line-step n text s u q) (λ k h e. same-length rows (withPart rows (partOf n text)) k h e)
+pub tracks-line : (n : ℕ) (text : List ℕ) (s u : Scan) (rows : List Row) (given : Option ℕ) → Tracks s rows given → lineStep n text s ≡ Ok u → Tracks u (rowsWith n rows text) given
+tracks-line n text s u rows given t q = tracks-part n (partOf n text) s u rows given t (line-step n text s u q) (λ k h e. same-length rows (withPart rows (partOf n text)) k h e)
 
-tracks-end : (s u : Scan) (n : ℕ) (o : Option Refusal) (rows : List Row) → Tracks s rows → scanEndBy s n o ≡ Ok u → Tracks u rows
-tracks-end s u n (Some e) rows t q = never (cc)
-tracks-end s u n None rows t q = by-end (endRefusal s n) q
+tracks-end : (s u : Scan) (n : ℕ) (o : Option Refusal) (rows : List Row) (given : Option ℕ) → Tracks s rows given → scanEndBy s n o ≡ Ok u → Tracks u rows given
+tracks-end s u n (Some e) rows given t q = never (cc)
+tracks-end s u n None rows given t q = by-end (endRefusal s n) q
   where
-    by-end : (a : Result (Unit {0}) Refusal) → onOk a s ≡ Ok u → Tracks u rows
+    by-end : (a : Result (Unit {0}) Refusal) → onOk a s ≡ Ok u → Tracks u rows given
     by-end (Err e) p = never (cc)
-    by-end (Ok x) p = let w : s ≡ u = cc in subst (λ v. Tracks v rows) w t
+    by-end (Ok x) p = let w : s ≡ u = cc in subst (λ v. Tracks v rows given) w t
 
-tracks-on : (n : ℕ) (l : List ℕ) (ls : List (List ℕ)) (e : Ending) (rows : List Row) (u : Scan) (r : Result Scan Refusal) → ((v : Scan) → r ≡ Ok v → scanLines (n + 1) ls e v ≡ Ok u → Tracks u (rowsOn n (l ∷ ls) rows)) → onScan r (λ t. scanLines (n + 1) ls e t) ≡ Ok u → Tracks u (rowsOn n (l ∷ ls) rows)
-tracks-on n l ls e rows u (Ok v) h q = h v refl q
-tracks-on n l ls e rows u (Err x) h q = never (cc)
+tracks-on : (n : ℕ) (l : List ℕ) (ls : List (List ℕ)) (e : Ending) (rows : List Row) (given : Option ℕ) (u : Scan) (r : Result Scan Refusal) → ((v : Scan) → r ≡ Ok v → scanLines (n + 1) ls e v ≡ Ok u → Tracks u (rowsOn n (l ∷ ls) rows) given) → onScan r (λ t. scanLines (n + 1) ls e t) ≡ Ok u → Tracks u (rowsOn n (l ∷ ls) rows) given
+tracks-on n l ls e rows given u (Ok v) h q = h v refl q
+tracks-on n l ls e rows given u (Err x) h q = never (cc)
 
-pub tracks-lines : (n : ℕ) (ls : List (List ℕ)) (e : Ending) (s u : Scan) (rows : List Row) → Tracks s rows → scanLines n ls e s ≡ Ok u → Tracks u (rowsOn n ls rows)
-tracks-lines n [] e s u rows t q = tracks-end s u n (endingRefusal (n + 1) e) rows t q
-tracks-lines n (l ∷ ls) e s u rows t q = tracks-on n l ls e rows u (lineStep (n + 1) l s) (λ v p r. tracks-lines (n + 1) ls e v u (rowsWith (n + 1) rows l) (tracks-line (n + 1) l s v rows t p) r) q
+pub tracks-lines : (n : ℕ) (ls : List (List ℕ)) (e : Ending) (s u : Scan) (rows : List Row) (given : Option ℕ) → Tracks s rows given → scanLines n ls e s ≡ Ok u → Tracks u (rowsOn n ls rows) given
+tracks-lines n [] e s u rows given t q = tracks-end s u n (endingRefusal (n + 1) e) rows given t q
+tracks-lines n (l ∷ ls) e s u rows given t q = tracks-on n l ls e rows given u (lineStep (n + 1) l s) (λ v p r. tracks-lines (n + 1) ls e v u (rowsWith (n + 1) rows l) given (tracks-line (n + 1) l s v rows given t p) r) q
 
 -- an accepted text: the scan tells of its rows
-pub tracks-text : (p : Part) (room : Option ℕ) (bs : List ℕ) (u : Scan) → scanOf p room bs ≡ Ok u → Tracks u (rowsIn bs)
+pub tracks-text : (p : Part) (room : Option ℕ) (bs : List ℕ) (u : Scan) → scanOf p room bs ≡ Ok u → Tracks u (rowsIn bs) room
 tracks-text p room bs u q = long (ltb 2097152 (length bs)) q
   where
-    begun : Tracks (started p room) []
-    begun = record { summary = refl; fits = λ k e. omega arith }
+    begun : Tracks (started p room) [] room
+    begun = record { summary = refl; room = refl; fits = λ k e. omega arith }
 
-    long : (b : Bool) → cond b (Err (TooLong 0)) (scanFrom 0 (textOf bs) (started p room)) ≡ Ok u → Tracks u (rowsIn bs)
+    long : (b : Bool) → cond b (Err (TooLong 0)) (scanFrom 0 (textOf bs) (started p room)) ≡ Ok u → Tracks u (rowsIn bs) room
     long true h = never (cc)
-    long false h = tracks-lines 0 (textOf bs .lines) (textOf bs .ending) (started p room) u [] begun h
+    long false h = tracks-lines 0 (textOf bs .lines) (textOf bs .ending) (started p room) u [] room begun h

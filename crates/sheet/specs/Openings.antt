@@ -1,0 +1,48 @@
+use mathlib.Core.List.{List, [], _∷_}
+use Prim.Native.Nat.{ℕ, zero, suc, min}
+use Rattle.std.specs.declared.option.Option.{Option}
+use Rattle.std.specs.declared.option.Option.the-variants.{Some, None}
+use Rattle.std.specs.declared.result.Result.{Result}
+use Rattle.std.specs.declared.result.Result.the-variants.{Ok, Err}
+use Rattle.refusal.specs.declared.Refusal.{Refusal}
+use Rattle.refusal.specs.declared.Refusal.the-variants.{NoFileOpen, NoSuchNumber}
+use Rattle.model.specs.declared.Row.{Row}
+use Rattle.model.specs.declared.header.Header.{Header}
+use Rattle.cells.specs.declared.summary.Cells.{Cells}
+use Rattle.cells.specs.Cells.{cellsIf}
+use Rattle.reading.specs.declared.scan.Scan.{Scan}
+use Rattle.reading.specs.declared.stage.Part.the-variants.{File}
+use Rattle.reading.specs.Texts.{scanOf}
+use Rattle.reading.specs.Stores.{rowsIn}
+
+-- header and rows of a file
+pub record Contents : Type 0 where
+  pub header : Header
+  pub rows : List Row
+
+abbrev pub contentsBy : Result Scan Refusal → List Row → Result Contents Refusal
+contentsBy (Ok s) rows = Ok (record { header = s .header; rows = rows })
+contentsBy (Err e) rows = Err e
+
+-- what a sheet with memory for so many rows makes of a file: a sheet has at most 8,192 rows
+abbrev pub openedFrom : ℕ → List ℕ → Result Contents Refusal
+openedFrom memory file = contentsBy (scanOf File (Some (min memory 8192)) file) (rowsIn file)
+
+-- the cells of a sheet; none while no file is open
+abbrev pub cellsBy : Option Cells → Result Cells Refusal
+cellsBy None = Err NoFileOpen
+cellsBy (Some c) = Ok c
+
+abbrev pub cellsAnswer : Option Header → List Row → Result Cells Refusal
+cellsAnswer None rows = Err NoFileOpen
+cellsAnswer (Some h) rows = cellsBy (cellsIf rows)
+
+abbrev pub headerAnswer : Option Header → Result Header Refusal
+headerAnswer None = Err NoFileOpen
+headerAnswer (Some h) = Ok h
+
+-- the row of a number counted from 0
+abbrev pub rowAnswer : List Row → ℕ → Result Row Refusal
+rowAnswer [] i = Err NoSuchNumber
+rowAnswer (r ∷ rs) zero = Ok r
+rowAnswer (r ∷ rs) (suc i) = rowAnswer rs i

@@ -1,0 +1,3 @@
+//! The prediction sheet: a header and rows in memory that the caller lends.
+pub mod memory;
+pub mod sheet;

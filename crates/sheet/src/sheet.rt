@@ -1,0 +1,23 @@
+ghost use Prim.Native.Nat.{_≤_};
+ghost use lib.ListN.{length};
+ghost use denote.Ref.{now};
+use crate::memory::Lent;
+use model::Row;
+use model::header::Header;
+
+pub mod calls;
+
+/// The most rows of a sheet.
+pub const MOST_ROWS: usize = 8_192;
+
+/// A prediction sheet over memory that the caller lends: its rows, and the rows that edits take out.
+#[derive(Drop)]
+pub struct Sheet<'m> {
+    rows: Lent<'m, Row>,
+    taken: Lent<'m, Row>,
+    /// How many rows are in use.
+    len: usize,
+    /// None while no file is open.
+    header: Option<Header>,
+    ghost inside: { len ≤ length (now (rows .cells)) },
+}
