@@ -47,9 +47,9 @@ interval-on s (r ∷ rs) h =
     let next = interval-on (extended s r) rs (omega arith) in
     by-bool (eqb (s .interval) step)
     (λ t. let same : extended s r .interval ≡ s .interval = rw (one, t) (sym (eqb-true (s .interval) step t)) in
-      next ∙ rw (same, t))
+    next ∙ rw (same, t))
     (λ f. let zero : extended s r .interval ≡ 0 = rw (one, f) in
-      next ∙ rw (zero, f) (same-choice (everyStep 0 (r .at) rs)))
+    next ∙ rw (zero, f) (same-choice (everyStep 0 (r .at) rs)))
 
 interval-is : (r : Row) (rs : List Row) → extendedBy (started r) rs .interval ≡ intervalOf (r ∷ rs)
 interval-is r [] = refl

@@ -41,7 +41,7 @@ within k (b ∷ bs) =
     let P : LineEnd → Type 0 = λ e. Inside e (k + suc (length bs)) in
     cond-both (eqb b 10) _ _ P (λ _. cond-both (leb k 128) _ _ P (λ _. omega arith) (λ _. tt))
     (λ _. cond-both (ltb b 32) _ _ P (λ _. tt) (λ _. cond-both (ltb 126 b) _ _ P (λ _. tt)
-      (λ _. let z : k + 1 + length bs ≡ k + suc (length bs) = omega arith in subst (λ n. Inside (lineEnd (k + 1) bs) n) z (within (k + 1) bs))))
+    (λ _. let z : k + 1 + length bs ≡ k + suc (length bs) = omega arith in subst (λ n. Inside (lineEnd (k + 1) bs) n) z (within (k + 1) bs))))
 
 -- what the bytes bs come to after those of the line, which ends as e says
 abbrev rest : List ℕ → LineEnd → List ℕ → Text
@@ -75,7 +75,7 @@ text-rest line (b ∷ bs) h =
     (λ f. by-bool (ltb b 32) (λ t. rw (f, t))
     (λ f2. by-bool (ltb 126 b) (λ t. rw (f, f2, t))
     (λ f3. rw (f, f2, f3)
-      (text-rest (line ++ (b ∷ [])) bs (omega (arith, length-push line b)) ∙ ap (λ k. rest (line ++ (b ∷ [])) (lineEnd k bs) bs) (length-push line b) ∙ shift line b bs (lineEnd (length line + 1) bs) (at-least (length line + 1) bs)))))
+    (text-rest (line ++ (b ∷ [])) bs (omega (arith, length-push line b)) ∙ ap (λ k. rest (line ++ (b ∷ [])) (lineEnd k bs) bs) (length-push line b) ∙ shift line b bs (lineEnd (length line + 1) bs) (at-least (length line + 1) bs)))))
 
 text-is : (b : ℕ) (bs : List ℕ) → textOf (b ∷ bs) ≡ rest [] (lineEnd 0 (b ∷ bs)) (b ∷ bs)
 text-is b bs = text-rest [] (b ∷ bs) (omega arith)

@@ -50,8 +50,8 @@ cut-word (b ∷ xs) zero some f within before found = absurd (f (found (omega ar
 cut-word (b ∷ xs) (suc n) some f within before found =
     ap (λ l. words (b ∷ l)) (sym (take-append-drop n xs))
     ∙ first-word b (take n xs) (drop n xs)
-      (λ k h e. before k (omega (arith, length-take-le n xs (omega arith))) (sym (getD-take (suc n) (b ∷ xs) k 0 (omega (arith, length-take-le n xs (omega arith)))) ∙ e))
-      (stops-at (b ∷ xs) (suc n) found)
+    (λ k h e. before k (omega (arith, length-take-le n xs (omega arith))) (sym (getD-take (suc n) (b ∷ xs) k 0 (omega (arith, length-take-le n xs (omega arith)))) ∙ e))
+    (stops-at (b ∷ xs) (suc n) found)
 
 -- what `skip_spaces` returns is the rest of xs from i, as the checker reads `&s[i..]`
 pub rest-same : (xs : List ℕ) (i : ℕ) (ws : List (List ℕ)) → words (drop i xs) ≡ ws → words (take (length xs - i) (drop i xs)) ≡ ws

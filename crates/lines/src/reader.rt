@@ -10,6 +10,8 @@ use crate::scan::LineEnd;
 use crate::scan::scan;
 use refusal::Refusal;
 
+mod place;
+
 /// Reads a text line by line off its own bytes.
 #[derive(Drop)]
 pub struct Lines<'f> {
@@ -26,14 +28,11 @@ impl<'f> Lines<'f> {
     pub fn new(file: &'f [u8]) -> Lines<'f>
         ensures { λ r. ⌜ r .file ≡ file .entry ⌝ ∗ ⌜ r .at ≡ 0 ⌝ ∗ ⌜ r .line ≡ 0 ⌝ }
     {
-        Lines { file, at: 0, line: 0 }
-    }
-
-    /// The number of the line read last, counted from 1; 0 before the first.
-    pub fn number(&self) -> usize
-        ensures { λ r. ⌜ r ≡ now (self .entry) .line ⌝ }
-    {
-        self.line
+        Lines {
+            file,
+            at: 0,
+            line: 0,
+        }
     }
 
     /// The next line without its end, None after the last; 11 and 12 for a line that is none.
@@ -55,8 +54,12 @@ impl<'f> Lines<'f> {
                 self.line += 1;
                 Ok(Some(line))
             }
-            LineEnd::Forbidden => Err(Refusal::ForbiddenByte { line: self.line + 1 }),
-            LineEnd::TooLong => Err(Refusal::TooLong { line: self.line + 1 }),
+            LineEnd::Forbidden => Err(Refusal::ForbiddenByte {
+                line: self.line + 1,
+            }),
+            LineEnd::TooLong => Err(Refusal::TooLong {
+                line: self.line + 1,
+            }),
         }
     }
 

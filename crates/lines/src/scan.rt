@@ -40,5 +40,9 @@ pub fn scan(text: &[u8]) -> LineEnd
 fn ended(n: usize) -> LineEnd
     ensures { λ r. ⌜ r ≡ endedAt n ⌝ }
 {
-    if n <= LONGEST_LINE { LineEnd::After(n) } else { LineEnd::TooLong }
+    if n <= LONGEST_LINE {
+        LineEnd::After(n)
+    } else {
+        LineEnd::TooLong
+    }
 }

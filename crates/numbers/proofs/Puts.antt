@@ -101,8 +101,5 @@ pub abs-le : (v : ℤ) (k : ℕ) → pos 0 ≤ℤ v → v ≤ℤ pos k → natAb
 abs-le (pos n) k h le = omega (arith, ints)
 abs-le (negsuc n) k h le = absurd (omega (arith, ints))
 
-pub two-digits : (xs : List ℕ) (v : ℤ) (n : ℕ) → length xs ≡ 2 → n ≡ natAbs v → pos 0 ≤ℤ v → v ≤ℤ pos 99 → set (set xs 0 (48 + n / 10)) 1 (48 + n % 10) ≡ twoDigits v
-two-digits xs v n two e low high =
-    let small : n ≤ 99 = omega (arith, abs-le v 99 low high) in
-    let q : n / 10 ≡ n / 10 % 10 = omega arith in
-    two-set xs (48 + n / 10) (48 + n % 10) two ∙ rw (← e, ← q)
+pub two-digits : (xs : List ℕ) (v : ℤ) (n : ℕ) → length xs ≡ 2 → n ≡ natAbs v → set (set xs 0 (48 + n / 10 % 10)) 1 (48 + n % 10) ≡ twoDigits v
+two-digits xs v n two e = two-set xs (48 + n / 10 % 10) (48 + n % 10) two ∙ rw e

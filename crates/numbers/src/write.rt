@@ -3,9 +3,7 @@
 ghost use mathlib.Core.List.{_++_};
 ghost use mathlib.Core.Path.{_≡_};
 ghost use Prim.Native.Nat.{_/_, _^_, _≤_};
-ghost use lib.IntN.{pos};
 ghost use lib.ListN.{length, drop, replicate};
-ghost use lib.Signed.{_≤ℤ_};
 ghost use Rattle.std.specs.Written.{decimal};
 ghost use Rattle.numbers.specs.Texts.{unsignedText, textOf, rightText, twoDigits};
 
@@ -53,13 +51,14 @@ pub fn decimal_len(value: i64, places: u8) -> usize
     if value < 0 { len + 1 } else { len }
 }
 
-/// Writes two digits, with a leading zero. For callers within this library: a field of two bytes, and a value from 0 to 99.
+/// Writes the last two digits of the value, with a leading zero and without its sign. For callers within this library: a
+/// field of two bytes.
 pub fn put_two_digits(field: &mut [u8], value: i64)
-    requires { ⌜ length (now field) ≡ 2 ⌝ ∗ ⌜ pos 0 ≤ℤ value ⌝ ∗ ⌜ value ≤ℤ pos 99 ⌝ }
+    requires { ⌜ length (now field) ≡ 2 ⌝ }
     ensures { λ _. ⌜ now (field .exit) ≡ twoDigits value ⌝ }
 {
     let n = value.unsigned_abs();
-    field[0] = b'0' + (n / 10) as u8;
+    field[0] = b'0' + (n / 10 % 10) as u8;
     field[1] = b'0' + (n % 10) as u8;
 }
 

@@ -1,6 +1,5 @@
 use mathlib.Core.Path.{_≡_, refl, sym, ap, subst, _∙_}
 use mathlib.Core.Bool.{Bool, true, false, cond}
-
 use mathlib.Core.List.{List, [], _∷_, _++_}
 use Prim.Native.Nat.{ℕ, _+_, _<_, _≤_}
 use native.Mathlib.Omega.{arith}
@@ -109,9 +108,9 @@ moved-step n p s v st (added r e f g h) = added r e f g h
 at-step : (n : ℕ) (p : RowPart) (s u : Scan) (st : Stage) (r : Result Scan Refusal) → ((v : Scan) → r ≡ Ok v → Step n p s v) → atStage st r ≡ Ok u → Step n p s u
 at-step n p s u st (Err x) h q = never (cc)
 at-step n p s u st (Ok v) h q = let w : withStage st v ≡ u = cc in elim (moved-step n p s v st (h v refl)) [
-    same e f g ↦ same (ap (λ x. x .summary) (sym w) ∙ e) (ap (λ x. x .room) (sym w) ∙ f) g
-    | added r e f g k ↦ added r e f (ap (λ x. x .summary) (sym w) ∙ g) (ap (λ x. x .room) (sym w) ∙ k)
-  ]
+  | same e f g ↦ same (ap (λ x. x .summary) (sym w) ∙ e) (ap (λ x. x .room) (sym w) ∙ f) g
+  | added r e f g k ↦ added r e f (ap (λ x. x .summary) (sym w) ∙ g) (ap (λ x. x .room) (sym w) ∙ k)
+]
 
 place-step : (n : ℕ) (text : List ℕ) (s u : Scan) (t : Record) (o : Option Stage) → byStage n text s t o ≡ Ok u → Step n (partByRecord n (drop 2 text) t) s u
 place-step n text s u t None q = never (cc)

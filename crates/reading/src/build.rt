@@ -29,7 +29,7 @@ pub struct Span {
     pub interval: i64,
 }
 
-pub fn origin_of(values: &Values) -> Origin
+pub(crate) fn origin_of(values: &Values) -> Origin
     ensures { λ r. ⌜ r ≡ originOf (valuesOf (now (values .entry))) ⌝ }
 {
     Origin {
@@ -41,11 +41,15 @@ pub fn origin_of(values: &Values) -> Origin
         sequence: values.number(7),
         sub_daily: values.number(8),
         target: values.name(9),
-        notes: if values.len > 10 { Some(values.name(10)) } else { None },
+        notes: if values.len > 10 {
+            Some(values.name(10))
+        } else {
+            None
+        },
     }
 }
 
-pub fn satellite_of(values: &Values) -> Satellite
+pub(crate) fn satellite_of(values: &Values) -> Satellite
     ensures { λ r. ⌜ r ≡ satelliteOf (valuesOf (now (values .entry))) ⌝ }
 {
     Satellite {
@@ -74,16 +78,23 @@ fn second_at(values: &Values, i: usize) -> DaySecond
     let hour = date_number(values.get(i + 3));
     let minute = date_number(values.get(i + 4));
     let second = date_number(values.get(i + 5));
-    DaySecond { day: date.day_number().unwrap_or(0), second: hour * 3600 + minute * 60 + second }
+    DaySecond {
+        day: date.day_number().unwrap_or(0),
+        second: hour * 3600 + minute * 60 + second,
+    }
 }
 
-pub fn span_of(values: &Values) -> Span
+pub(crate) fn span_of(values: &Values) -> Span
     ensures { λ r. ⌜ r ≡ spanOf (valuesOf (now (values .entry))) ⌝ }
 {
-    Span { start: second_at(values, 3), end: second_at(values, 9), interval: values.number(15) }
+    Span {
+        start: second_at(values, 3),
+        end: second_at(values, 9),
+        interval: values.number(15),
+    }
 }
 
-pub fn accuracy_of(values: &Values) -> Accuracy
+pub(crate) fn accuracy_of(values: &Values) -> Accuracy
     ensures { λ r. ⌜ r ≡ accuracyOf (valuesOf (now (values .entry))) ⌝ }
 {
     Accuracy {
@@ -101,10 +112,12 @@ pub fn accuracy_of(values: &Values) -> Accuracy
     }
 }
 
-pub fn offset_of(values: &Values) -> Offset
+pub(crate) fn offset_of(values: &Values) -> Offset
     ensures { λ r. ⌜ r ≡ offsetOf (valuesOf (now (values .entry))) ⌝ }
 {
-    Offset { value: values.number(0) }
+    Offset {
+        value: values.number(0),
+    }
 }
 
 fn flag_of(value: i64) -> LeapFlag
@@ -121,23 +134,33 @@ fn flag_of(value: i64) -> LeapFlag
 
 /// The row of a position record, without a velocity. (Inner: the day and the second are those of the calendar, as the fields of the
 /// record ask.)
-pub fn row_of(values: &Values) -> Row
+pub(crate) fn row_of(values: &Values) -> Row
     requires { ⌜ inCalendar (natAbs (numberAt (valuesOf (now values)) 1)) (natAbs (numberAt (valuesOf (now values)) 2)) ≡ true ⌝ }
     ensures { λ r. ⌜ r ≡ rowOf (valuesOf (now (values .entry))) ⌝ }
 {
     let day = values.number(1).unsigned_abs();
     let micros = values.number(2).unsigned_abs();
-    let Ok(at) = Instant::new(day as u32, micros) else { unreachable() };
+    let Ok(at) = Instant::new(day as u32, micros) else {
+        unreachable()
+    };
     Row {
         at,
         flag: flag_of(values.number(3)),
-        position: Vector { x: values.number(4), y: values.number(5), z: values.number(6) },
+        position: Vector {
+            x: values.number(4),
+            y: values.number(5),
+            z: values.number(6),
+        },
         velocity: None,
     }
 }
 
-pub fn velocity_of(values: &Values) -> Vector
+pub(crate) fn velocity_of(values: &Values) -> Vector
     ensures { λ r. ⌜ r ≡ velocityOf (valuesOf (now (values .entry))) ⌝ }
 {
-    Vector { x: values.number(1), y: values.number(2), z: values.number(3) }
+    Vector {
+        x: values.number(1),
+        y: values.number(2),
+        z: values.number(3),
+    }
 }

@@ -37,7 +37,7 @@ fn part_of(number: usize, kind: Record, words: &[u8]) -> RowPart
 
 impl RowPart {
     /// What the line of this number says of the rows.
-    pub fn of(number: usize, line: &[u8]) -> RowPart
+    pub(crate) fn of(number: usize, line: &[u8]) -> RowPart
         ensures { λ r. ⌜ r ≡ partOf number (now (line .entry)) ⌝ }
     {
         match Record::of(line) {

@@ -39,7 +39,7 @@ pub enum Part {
 
 impl Stage {
     /// The stage after a record; None where the record is out of place.
-    pub fn next(self, part: Part, kind: Record) -> Option<Stage>
+    pub(crate) fn next(self, part: Part, kind: Record) -> Option<Stage>
         ensures { λ r. ⌜ r ≡ nextStage part self kind ⌝ }
     {
         match kind {
@@ -79,7 +79,11 @@ impl Stage {
             },
             Record::Trailer => match part {
                 Part::File => {
-                    if self.rows_done() { Some(Stage::End) } else { None }
+                    if self.rows_done() {
+                        Some(Stage::End)
+                    } else {
+                        None
+                    }
                 }
                 Part::Block => None,
             },
@@ -87,7 +91,7 @@ impl Stage {
     }
 
     /// Whether there is a row, and every row is whole.
-    pub fn rows_done(self) -> bool
+    pub(crate) fn rows_done(self) -> bool
         ensures { λ r. ⌜ r ≡ rowsDone self ⌝ }
     {
         match self {

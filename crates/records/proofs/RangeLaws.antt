@@ -107,8 +107,8 @@ pub read-right : (line : ℕ) (t : Record) (rest : List ℕ) (vs : List Value) �
 read-right line t rest vs p =
     by-bool (countFits t (length (words rest)))
     (λ h. let q : readOn line (fieldsOf t) (words rest) [] ≡ Ok vs = rw h at p in
-      let a = read-adds line (fieldsOf t) (words rest) [] vs q in
-      record { fits = h; inside = ap (inFields (fieldsOf t)) (a .all) ∙ a .inside; count = ap length (a .all) ∙ a .count })
+    let a = read-adds line (fieldsOf t) (words rest) [] vs q in
+    record { fits = h; inside = ap (inFields (fieldsOf t)) (a .all) ∙ a .inside; count = ap length (a .all) ∙ a .count })
     (λ h. let q : _≡_ {A = Result (List Value) Refusal} (Err (WordCount line)) (Ok vs) = rw h at p in never (cc))
 
 in-range : (low high : ℕ) (z : ℤ) → (leZ (pos low) z && leZ z (pos high)) ≡ true → (low ≤ natAbs z) × (natAbs z ≤ high)

@@ -75,7 +75,11 @@ impl Field {
         match value {
             None => Err(Fault::Form),
             Some(v) => {
-                if self.in_bounds(v) { Ok(Value::Number(v)) } else { Err(Fault::Range) }
+                if self.in_bounds(v) {
+                    Ok(Value::Number(v))
+                } else {
+                    Err(Fault::Range)
+                }
             }
         }
     }
@@ -86,7 +90,11 @@ impl Field {
         match value {
             None => Err(Fault::Form),
             Some(v) => {
-                if self.in_bounds(v) && v <= i64::from(last) { Ok(Value::Number(v)) } else { Err(Fault::Range) }
+                if self.in_bounds(v) && v <= i64::from(last) {
+                    Ok(Value::Number(v))
+                } else {
+                    Err(Fault::Range)
+                }
             }
         }
     }
@@ -95,7 +103,11 @@ impl Field {
 fn text(ok: bool, word: &[u8]) -> Result<Value, Fault>
     ensures { λ r. ⌜ r ≡ textIf ok (now (word .entry)) ⌝ }
 {
-    if ok { Ok(Value::Text(Name::of(word))) } else { Err(Fault::Form) }
+    if ok {
+        Ok(Value::Text(Name::of(word)))
+    } else {
+        Err(Fault::Form)
+    }
 }
 
 /// A year, month, day, hour, minute or second as a number; 0 for what is none.
@@ -103,9 +115,7 @@ pub fn date_number(value: Value) -> u32
     ensures { λ r. ⌜ r ≡ dateNumber value ⌝ }
 {
     match value {
-        Value::Number(v) => {
-            if v >= 0 && v <= 9999 { v as u32 } else { 0 }
-        }
+        Value::Number(v) => { if v >= 0 && v <= 9999 { v as u32 } else { 0 } }
         Value::Text(_) => 0,
     }
 }
@@ -149,7 +159,12 @@ impl Fault {
 }
 
 /// The words by their fields, from the left; answers how many values it wrote.
-fn read_fields(line: usize, words: &[u8], fields: &[Field], out: &mut [Value]) -> Result<usize, Refusal>
+fn read_fields(
+    line: usize,
+    words: &[u8],
+    fields: &[Field],
+    out: &mut [Value],
+) -> Result<usize, Refusal>
     requires { ⌜ length (now fields) ≤ length (now out) ⌝ ∗ ⌜ length (now fields) ≤ 22 ⌝ ∗ ⌜ Fine (now fields) ⌝ }
     ensures told { λ r. ⌜ Told r (readOn line (now (fields .entry)) (wordsIn (now (words .entry))) []) (now (out .exit)) ⌝ }
     ensures inside { λ r. ⌜ made r (λ n. n ≤ 22) ⌝ }

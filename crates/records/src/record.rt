@@ -60,7 +60,11 @@ impl Record {
             [a, b] => Record::of_type(*a, *b),
             [a, b, c, ..] => {
                 let record = Record::of_type(*a, *b)?;
-                if *c == b' ' || record.is_comment() { Some(record) } else { None }
+                if *c == b' ' || record.is_comment() {
+                    Some(record)
+                } else {
+                    None
+                }
             }
             _ => None,
         }

@@ -10,6 +10,8 @@ use Rattle.model.specs.declared.Row.{Row}
 use Rattle.model.specs.declared.header.Header.{Header}
 use Rattle.cells.specs.declared.summary.Cells.{Cells}
 use Rattle.cells.specs.Cells.{cellsIf}
+use Rattle.writing.specs.Files.{canonical}
+use Rattle.writing.specs.Places.{writeAnswer, afterWrite}
 use Rattle.reading.specs.declared.scan.Scan.{Scan}
 use Rattle.reading.specs.declared.stage.Part.the-variants.{File}
 use Rattle.reading.specs.Texts.{scanOf}
@@ -46,3 +48,12 @@ abbrev pub rowAnswer : List Row → ℕ → Result Row Refusal
 rowAnswer [] i = Err NoSuchNumber
 rowAnswer (r ∷ rs) zero = Ok r
 rowAnswer (r ∷ rs) (suc i) = rowAnswer rs i
+
+-- the canonical file written at the start of an output, and the output after it
+abbrev pub fileAnswer : Option Header → List Row → List ℕ → Result ℕ Refusal
+fileAnswer None rows out = Err NoFileOpen
+fileAnswer (Some h) rows out = writeAnswer (canonical h rows) out
+
+abbrev pub afterFile : Option Header → List Row → List ℕ → List ℕ
+afterFile None rows out = out
+afterFile (Some h) rows out = afterWrite (canonical h rows) out

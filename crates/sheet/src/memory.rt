@@ -14,21 +14,21 @@ pub struct Lent<'m, T> {
 }
 
 impl<'m, T: Copy> Lent<'m, T> {
-    pub fn new(cells: &'m mut [T]) -> Lent<'m, T>
+    pub(crate) fn new(cells: &'m mut [T]) -> Lent<'m, T>
         ensures value { λ r. ⌜ now (r .cells) ≡ now (cells .entry) ⌝ }
         ensures same { λ r. ⌜ name (r .cells) ≡ name (cells .entry) ⌝ }
     {
         Lent { cells }
     }
 
-    pub fn len(&self) -> usize
+    pub(crate) fn len(&self) -> usize
         ensures { λ r. ⌜ r ≡ length (now (now (self .entry) .cells)) ⌝ }
     {
         self.cells.len()
     }
 
     /// The first `n` cells. (Inner: there are so many.)
-    pub fn first(&self, n: usize) -> &[T]
+    pub(crate) fn first(&self, n: usize) -> &[T]
         requires { ⌜ n ≤ length (now (now self .cells)) ⌝ }
         ensures { λ r. ⌜ now r ≡ take n (now (now (self .entry) .cells)) ⌝ }
     {
@@ -37,7 +37,7 @@ impl<'m, T: Copy> Lent<'m, T> {
 }
 
 /// Stores the rows of a text that was checked, and answers how many they are. (Inner: there is room for them.)
-pub fn load_rows(memory: &mut Lent<'_, Row>, text: &[u8]) -> usize
+pub(crate) fn load_rows(memory: &mut Lent<'_, Row>, text: &[u8]) -> usize
     requires { ⌜ length (rowsIn (now text)) ≤ length (now (now memory .cells)) ⌝ }
     ensures rows { λ r. ⌜ take r (now (now (memory .exit) .cells)) ≡ rowsIn (now (text .entry)) ⌝ }
     ensures count { λ r. ⌜ r ≡ length (rowsIn (now (text .entry))) ⌝ }

@@ -16,14 +16,21 @@ fn step_seconds(from: Instant, to: Instant) -> u32
 {
     let micros = to.joined().saturating_sub(from.joined());
     let seconds = micros / 1_000_000;
-    if micros % 1_000_000 == 0 && seconds <= GREATEST_INTERVAL { seconds as u32 } else { 0 }
+    if micros % 1_000_000 == 0 && seconds <= GREATEST_INTERVAL {
+        seconds as u32
+    } else {
+        0
+    }
 }
 
 impl DaySecond {
     pub fn of(at: Instant) -> DaySecond
         ensures { λ r. ⌜ r ≡ daySecond at ⌝ }
     {
-        DaySecond { day: at.day, second: at.second() }
+        DaySecond {
+            day: at.day,
+            second: at.second(),
+        }
     }
 }
 
@@ -32,7 +39,13 @@ impl Summary {
     pub fn start(row: Row) -> Summary
         ensures { λ r. ⌜ r ≡ started row ⌝ }
     {
-        Summary { count: 1, first: row.at, last: row.at, flag: row.flag, interval: 0 }
+        Summary {
+            count: 1,
+            first: row.at,
+            last: row.at,
+            flag: row.flag,
+            interval: 0,
+        }
     }
 
     /// The summary with one row more. (Inner: the count must not pass the greatest `usize`.)

@@ -47,23 +47,35 @@ impl Scan {
         match self.summary {
             None => Err(Refusal::CellsDisagree),
             Some(summary) => {
-                if self.span.agrees(summary.cells()) { Ok(()) } else { Err(Refusal::CellsDisagree) }
+                if self.span.agrees(summary.cells()) {
+                    Ok(())
+                } else {
+                    Err(Refusal::CellsDisagree)
+                }
             }
         }
     }
 
     /// The end after so many lines: 14 at the line after the last where something is missing, then 20. (Inner: there is a next line
     /// number.)
-    pub fn finish(&self, lines: usize) -> Result<(), Refusal>
+    pub(crate) fn finish(&self, lines: usize) -> Result<(), Refusal>
         requires { ⌜ lines + 1 < 2 ^ 64 ⌝ }
         ensures { λ r. ⌜ r ≡ endRefusal (now (self .entry)) lines ⌝ }
     {
         match self.part {
             Part::File => {
-                if self.stage.is_end() { self.check_span() } else { Err(Refusal::OutOfPlace { line: lines + 1 }) }
+                if self.stage.is_end() {
+                    self.check_span()
+                } else {
+                    Err(Refusal::OutOfPlace { line: lines + 1 })
+                }
             }
             Part::Block => {
-                if self.stage.rows_done() { Ok(()) } else { Err(Refusal::OutOfPlace { line: lines + 1 }) }
+                if self.stage.rows_done() {
+                    Ok(())
+                } else {
+                    Err(Refusal::OutOfPlace { line: lines + 1 })
+                }
             }
         }
     }

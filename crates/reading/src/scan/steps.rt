@@ -27,7 +27,7 @@ use refusal::Refusal;
 
 impl Scan {
     /// Before the first line.
-    pub fn start(part: Part, room: Option<usize>) -> Scan
+    pub(crate) fn start(part: Part, room: Option<usize>) -> Scan
         ensures { λ r. ⌜ r ≡ started part room ⌝ }
     {
         let none = Values::none();
@@ -38,7 +38,12 @@ impl Scan {
                 Part::File => Stage::Start,
                 Part::Block => Stage::H9,
             },
-            header: Header { origin: origin_of(&none), satellite: satellite_of(&none), accuracy: None, offset: None },
+            header: Header {
+                origin: origin_of(&none),
+                satellite: satellite_of(&none),
+                accuracy: None,
+                offset: None,
+            },
             span: span_of(&none),
             summary: None,
         }
@@ -139,7 +144,7 @@ impl Scan {
     }
 
     /// One line more: 13, 14, and then its content. (Inner: there were fewer rows than lines.)
-    pub fn line(&mut self, number: usize, line: &[u8]) -> Result<(), Refusal>
+    pub(crate) fn line(&mut self, number: usize, line: &[u8]) -> Result<(), Refusal>
         requires { ⌜ rowCount (now self) < number ⌝ }
         ensures { λ r. ⌜ Stepped r (lineStep number (now (line .entry)) (now (self .entry))) (now (self .entry)) (now (self .exit)) ⌝ }
     {

@@ -12,14 +12,21 @@ impl Values {
     pub fn none() -> Values
         ensures { λ r. ⌜ valuesOf r ≡ [] ⌝ }
     {
-        Values { items: [Value::Number(0); MOST_FIELDS], len: 0 }
+        Values {
+            items: [Value::Number(0); MOST_FIELDS],
+            len: 0,
+        }
     }
 
     /// The value at a place counted from 0; the number 0 where there is none.
     pub fn get(&self, i: usize) -> Value
         ensures { λ r. ⌜ r ≡ valueAt (valuesOf (now (self .entry))) i ⌝ }
     {
-        if i < self.len { self.items[i] } else { Value::Number(0) }
+        if i < self.len {
+            self.items[i]
+        } else {
+            Value::Number(0)
+        }
     }
 
     /// The number at a place; 0 where there is none.

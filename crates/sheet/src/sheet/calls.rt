@@ -4,7 +4,7 @@ ghost use mathlib.Core.List.{[]};
 ghost use lib.ListN.{length};
 ghost use denote.Ref.{now, name};
 ghost use Rattle.std.specs.declared.option.Option.the-variants.{None};
-ghost use Rattle.sheet.specs.Openings.{openedFrom, cellsAnswer, headerAnswer, rowAnswer};
+ghost use Rattle.sheet.specs.Openings.{openedFrom, cellsAnswer, headerAnswer, rowAnswer, fileAnswer, afterFile};
 ghost use Rattle.sheet.specs.Sheets.{rowsOf, rowMemory, takenMemory, Opened};
 use crate::memory::Lent;
 use crate::memory::load_rows;
@@ -17,6 +17,7 @@ use model::header::Header;
 use reading::stage::Part;
 use reading::text::scan_text;
 use refusal::Refusal;
+use writing::file::write_file;
 
 impl<'m> Sheet<'m> {
     /// An empty sheet, with no file open, over memory for rows and for rows taken out.
@@ -25,7 +26,12 @@ impl<'m> Sheet<'m> {
         ensures memory { λ r. ⌜ (rowMemory r ≡ now (rows .entry)) × (takenMemory r ≡ now (taken .entry)) ⌝ }
         ensures lent { λ r. ⌜ (name (r .rows .cells) ≡ name (rows .entry)) × (name (r .taken .cells) ≡ name (taken .entry)) ⌝ }
     {
-        Sheet { rows: Lent::new(rows), taken: Lent::new(taken), len: 0, header: None }
+        Sheet {
+            rows: Lent::new(rows),
+            taken: Lent::new(taken),
+            len: 0,
+            header: None,
+        }
     }
 
     /// Opens a file in place of what was open. The whole file is checked before a row is stored: a refusal changes nothing.
@@ -67,6 +73,22 @@ impl<'m> Sheet<'m> {
         ensures { λ r. ⌜ r ≡ rowAnswer (rowsOf (now (self .entry))) i ⌝ }
     {
         let rows = self.rows.first(self.len);
-        if i < rows.len() { Ok(rows[i]) } else { Err(Refusal::NoSuchNumber) }
+        if i < rows.len() {
+            Ok(rows[i])
+        } else {
+            Err(Refusal::NoSuchNumber)
+        }
+    }
+
+    /// Writes the canonical file at the start of the output, and answers its length. Refusals: 24, 33, which leave the output as it
+    /// was.
+    pub fn write(&self, out: &mut [u8]) -> Result<usize, Refusal>
+        ensures answer { λ r. ⌜ r ≡ fileAnswer (now (self .entry) .header) (rowsOf (now (self .entry))) (now (out .entry)) ⌝ }
+        ensures after { λ _. ⌜ now (out .exit) ≡ afterFile (now (self .entry) .header) (rowsOf (now (self .entry))) (now (out .entry)) ⌝ }
+    {
+        match self.header {
+            Some(header) => write_file(&header, self.rows.first(self.len), out),
+            None => Err(Refusal::NoFileOpen),
+        }
     }
 }

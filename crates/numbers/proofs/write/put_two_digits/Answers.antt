@@ -9,4 +9,4 @@ pub returns : need.returns
 returns c =
     let v = c .args .value in
     let abs : c .unsigned-abs-n .result ≡ natAbs v = c .unsigned-abs-n .ensures .value ∙ ap natAbs (toZ-ofZ w64 v (c .fits .value)) in
-    puts.two-digits (c .args .field .now) v (c .unsigned-abs-n .result) (c .pre .0) abs (c .pre .1 .0) (c .pre .1 .1)
+    puts.two-digits (c .args .field .now) v (c .unsigned-abs-n .result) (c .pre) abs

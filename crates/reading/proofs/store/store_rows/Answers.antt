@@ -28,11 +28,10 @@ loop-line-again c =
     let s = need.at·loop-line-again c .In-Some in
     let ok = c .in-Some .ensures tt in
     let rs = take (c .loop-line .n) (c .loop-line .rows) in
-    let put : take (c .store-part-n .result) (c .store-part-n .last .rows) ≡ withPart rs (partOf (c .number .result) (c .in-Some .line .now)) = c .store-part-n .ensures .rows ∙ ap (withPart rs) (c .of .ensures) in
-    (
+    let put : take (c .store-part-n .result) (c .store-part-n .last .rows) ≡ withPart rs (partOf (c .number .result) (c .in-Some .line .now)) = c .store-part-n .ensures .rows ∙ ap (withPart rs) (c .of .ensures) in (
       ap (rowsOn (c .next-line .last .self .line) (textOf (drop (c .next-line .last .self .at) (c .args .text .now)) .lines)) put
-      ∙ rows-more _ _ (c .in-Some .line .now) (c .loop-line .lines .line) rs (told s) (c .next-line .last .self .line) (c .number .result) (ok .line) (c .number .ensures)
-      ∙ c .loop-line .inv .0,
+          ∙ rows-more _ _ (c .in-Some .line .now) (c .loop-line .lines .line) rs (told s) (c .next-line .last .self .line) (c .number .result) (ok .line) (c .number .ensures)
+          ∙ c .loop-line .inv .0,
       ap (λ f. f .now) (ok .file) ∙ c .loop-line .inv .1,
       c .store-part-n .ensures .held,
     )

@@ -57,11 +57,10 @@ loop-line-again c =
     let some = need.at·loop-line-again c .In-Some in
     let step = taken-at some (c .number .result) (c .number .ensures) (c .loop-line .scan) (Ok (c .line .last .self)) (c .in-Continue-line-2 .ensures tt) in
     let more = count-step (c .loop-line .lines .line + 1) (c .in-Some .line .now) (c .loop-line .scan) (c .line .last .self) step in
-    let n = counted some in
-    (
+    let n = counted some in (
       (λ i. scanFrom (n i) (textOf (drop (far some i) (c .args .text .now))) (c .line .last .self))
-      ∙ sym (one-line (c .args .text .now) (c .loop-line .lines .line) (c .loop-line .lines .at) (c .loop-line .scan) (c .in-Some .line .now) (c .line .last .self) (told some) step)
-      ∙ c .loop-line .inv .0,
+          ∙ sym (one-line (c .args .text .now) (c .loop-line .lines .line) (c .loop-line .lines .at) (c .loop-line .scan) (c .in-Some .line .now) (c .line .last .self) (told some) step)
+          ∙ c .loop-line .inv .0,
       ap (λ f. f .now) (c .in-Continue-line .ensures tt .file) ∙ c .loop-line .inv .1,
       omega (arith, c .loop-line .inv .2),
     )

@@ -59,8 +59,7 @@ loop-i-again c =
     let v = c .in-Ok .value in
     let on = words (c .in-Some .after .now) in
     let told = c .in-Ok .ensures tt ∙ ap (fieldValue (at fs i) (c .in-Some .word .now)) (part out i) in
-    let good = laws.good-word (c .args .line) fs i (take i out) (at fs i) (c .loop-i-test .taken) (at-is fs i (c .loop-i-test .taken)) (words (c .loop-i .rest .now)) (c .in-Some .word .now) on v (c .in-Some .ensures tt .words) told in
-    (
+    let good = laws.good-word (c .args .line) fs i (take i out) (at fs i) (c .loop-i-test .taken) (at-is fs i (c .loop-i-test .taken)) (words (c .loop-i .rest .now)) (c .in-Some .word .now) on v (c .in-Some .ensures tt .words) told in (
       ap (readOn (c .args .line) (drop (i + 1) fs) on) (take-more-set out i v (omega arith)) ∙ sym good ∙ c .loop-i .inv .0,
       length-set out i v ∙ c .loop-i .inv .1,
     )

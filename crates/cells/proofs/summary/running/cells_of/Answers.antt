@@ -15,6 +15,6 @@ loop-i-again c =
     (ap (λ s. extendedBy s (drop (i + 1) rows)) (c .add .ensures) ∙ sym (by-more (c .loop-i .summary) rows i (c .index-rows-i .result) (c .loop-i-test .taken) (c .index-rows-i .is)) ∙ c .loop-i .inv .0, ap (λ s. s .count) (c .add .ensures) ∙ ap (λ n. n + 1) (c .loop-i .inv .1))
 
 pub returns : need.returns
-returns c = 
+returns c =
     let rows = c .args .rows .now in
     ap Some (c .cells .ensures ∙ ap cellsBy (sym (by-all (c .loop-i .summary) rows (c .loop-i .i) (c .loop-i-test .left)) ∙ c .loop-i .inv .0 ∙ ap (λ s. extendedBy s (drop 1 rows)) (c .start-summary .ensures))) ∙ cells-from rows (c .index-rows-0 .result) (omega arith) (c .index-rows-0 .is)

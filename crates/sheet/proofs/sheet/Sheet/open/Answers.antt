@@ -29,8 +29,7 @@ pub returns : need.returns
 returns c =
     let file = c .args .file .now in
     let n : c .min-room .result ≡ min (length (c .args .self .now .rows .cells .now)) 8192 = c .min-room .ensures ∙ ap (λ k. min k 8192) (c .len .ensures) in
-    let told = ap (λ k. contentsBy (scanOf File (Some k) file) (rowsIn file)) (sym n) ∙ ap (λ r. contentsBy r (rowsIn file)) (sym (c .in-Continue-scan .ensures tt)) in
-    (
+    let told = ap (λ k. contentsBy (scanOf File (Some k) file) (rowsIn file)) (sym n) ∙ ap (λ r. contentsBy r (rowsIn file)) (sym (c .in-Continue-scan .ensures tt)) in (
       record { header = c .in-Continue-scan .scan .header; rows = rowsIn file },
       told,
       record { header = refl; rows = c .load-rows-self .ensures .rows; room = c .load-rows-self .ensures .len; taken = refl },

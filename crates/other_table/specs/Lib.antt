@@ -1,0 +1,2 @@
+pub mod EvenRows
+pub mod Meaning

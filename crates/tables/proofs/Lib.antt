@@ -1,0 +1,4 @@
+pub mod Places
+pub mod Orders
+pub mod Flags
+pub mod Laws

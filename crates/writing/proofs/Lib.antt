@@ -1,0 +1,4 @@
+pub mod PlaceLaws
+pub mod FieldLaws
+pub mod RecordLaws
+pub mod FileLaws
