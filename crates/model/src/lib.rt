@@ -2,6 +2,7 @@
 pub mod flags;
 pub mod header;
 pub mod name;
+pub mod rows;
 
 use calendar::instant::Instant;
 use calendar::instant::InstantDebug;
