@@ -15,7 +15,10 @@ impl Row {
         ensures rest { λ r. ⌜ (r .flag ≡ NoLeap) × (r .position .x ≡ pos 0) × (r .position .y ≡ pos 0) × (r .position .z ≡ pos 0) × (r .velocity ≡ None) ⌝ }
     {
         Row {
-            at: Instant { day: 40_587, micros: 0 },
+            at: Instant {
+                day: 40_587,
+                micros: 0,
+            },
             flag: LeapFlag::NoLeap,
             position: Vector { x: 0, y: 0, z: 0 },
             velocity: None,

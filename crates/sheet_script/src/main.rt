@@ -43,7 +43,11 @@ fn cells(rt: &LibcRuntime, sheet: &Sheet) -> io::Result<()> {
             let start = cells.start;
             let end = cells.end;
             let interval = cells.interval;
-            println!(rt, "cells {count} {} {} {} {} {interval}", start.day, start.second, end.day, end.second)
+            println!(
+                rt,
+                "cells {count} {} {} {} {} {interval}",
+                start.day, start.second, end.day, end.second
+            )
         }
         Err(refusal) => println!(rt, "{refusal}"),
     }
@@ -66,7 +70,13 @@ fn write(rt: &LibcRuntime, sheet: &Sheet, path: &str, out: &mut [u8]) -> io::Res
     }
 }
 
-fn run(rt: &LibcRuntime, sheet: &mut Sheet, line: &str, file: &mut [u8], out: &mut [u8]) -> io::Result<()> {
+fn run(
+    rt: &LibcRuntime,
+    sheet: &mut Sheet,
+    line: &str,
+    file: &mut [u8],
+    out: &mut [u8],
+) -> io::Result<()> {
     match Command::of(line) {
         Command::Open(path) => open(rt, sheet, path, file),
         Command::Cells => cells(rt, sheet),
