@@ -1,1 +1,1 @@
-pub mod RowLaws
+pub mod UpLaws

@@ -1,11 +1,11 @@
-use mathlib.Core.List.{List, [], _∷_}
-use Prim.Native.Nat.{ℕ, zero, suc, min}
+use mathlib.Core.List.{List}
+use Prim.Native.Nat.{ℕ, min}
 use Rattle.std.specs.declared.option.Option.{Option}
 use Rattle.std.specs.declared.option.Option.the-variants.{Some, None}
 use Rattle.std.specs.declared.result.Result.{Result}
 use Rattle.std.specs.declared.result.Result.the-variants.{Ok, Err}
 use Rattle.refusal.specs.declared.Refusal.{Refusal}
-use Rattle.refusal.specs.declared.Refusal.the-variants.{NoFileOpen, NoSuchNumber}
+use Rattle.refusal.specs.declared.Refusal.the-variants.{NoFileOpen}
 use Rattle.model.specs.declared.Row.{Row}
 use Rattle.model.specs.declared.header.Header.{Header}
 use Rattle.cells.specs.declared.summary.Cells.{Cells}
@@ -42,12 +42,6 @@ cellsAnswer (Some h) rows = cellsBy (cellsIf rows)
 abbrev pub headerAnswer : Option Header → Result Header Refusal
 headerAnswer None = Err NoFileOpen
 headerAnswer (Some h) = Ok h
-
--- the row of a number counted from 0
-abbrev pub rowAnswer : List Row → ℕ → Result Row Refusal
-rowAnswer [] i = Err NoSuchNumber
-rowAnswer (r ∷ rs) zero = Ok r
-rowAnswer (r ∷ rs) (suc i) = rowAnswer rs i
 
 -- the canonical file written at the start of an output, and the output after it
 abbrev pub fileAnswer : Option Header → List Row → List ℕ → Result ℕ Refusal

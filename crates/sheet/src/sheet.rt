@@ -1,11 +1,15 @@
+ghost use mathlib.Core.Path.{_≡_};
+ghost use mathlib.Core.Bool.{true};
 ghost use Prim.Native.Nat.{_≤_};
-ghost use lib.ListN.{length};
+ghost use lib.ListN.{length, take};
 ghost use denote.Ref.{now};
+ghost use Rattle.tables.specs.Lines.{ascends};
 use crate::memory::Lent;
 use model::Row;
 use model::header::Header;
 
 pub mod calls;
+pub mod table;
 
 /// The most rows of a sheet.
 pub const MOST_ROWS: usize = 8_192;
@@ -20,4 +24,6 @@ pub struct Sheet<'m> {
     /// None while no file is open.
     header: Option<Header>,
     ghost inside: { len ≤ length (now (rows .cells)) },
+    ghost few: { len ≤ 8192 },
+    ghost up: { ascends (take len (now (rows .cells))) ≡ true },
 }

@@ -6,6 +6,8 @@ use refusal::Refusal;
 use refusal::RefusalDisplay;
 use sheet::sheet::MOST_ROWS;
 use sheet::sheet::Sheet;
+use sheet::sheet::table::SheetPredictionTable;
+use sheet::sheet::table::SheetTimeLine;
 use std::fs;
 use std::io;
 use std::io::BufRead;
@@ -13,6 +15,8 @@ use std::io::BufReader;
 use std::io::Write;
 use streams::fill;
 use streams::first;
+use tables::windows::window;
+use writing::file::write_row;
 
 mod command;
 
@@ -70,6 +74,23 @@ fn write(rt: &LibcRuntime, sheet: &Sheet, path: &str, out: &mut [u8]) -> io::Res
     }
 }
 
+fn row(rt: &LibcRuntime, sheet: &Sheet, number: usize, out: &mut [u8]) -> io::Result<()> {
+    match sheet.row(number) {
+        Ok(row) => match write_row(&row, out) {
+            Ok(len) => rt.stdout().write_all(first(out, len)),
+            Err(refusal) => println!(rt, "{refusal}"),
+        },
+        Err(refusal) => println!(rt, "{refusal}"),
+    }
+}
+
+fn show_window(rt: &LibcRuntime, sheet: &Sheet, day: u32, micros: u64) -> io::Result<()> {
+    match window(sheet, day, micros) {
+        Ok(first) => println!(rt, "window {first}"),
+        Err(refusal) => println!(rt, "{refusal}"),
+    }
+}
+
 fn run(
     rt: &LibcRuntime,
     sheet: &mut Sheet,
@@ -82,6 +103,8 @@ fn run(
         Command::Cells => cells(rt, sheet),
         Command::Show => show(rt, sheet, out),
         Command::Write(path) => write(rt, sheet, path, out),
+        Command::Row(number) => row(rt, sheet, number, out),
+        Command::Window(day, micros) => show_window(rt, sheet, day, micros),
         Command::Nothing => Ok(()),
         Command::Unknown => println!(rt, "error: unknown command: {line}"),
     }

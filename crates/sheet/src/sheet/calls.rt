@@ -4,7 +4,8 @@ ghost use mathlib.Core.List.{[]};
 ghost use lib.ListN.{length};
 ghost use denote.Ref.{now, name};
 ghost use Rattle.std.specs.declared.option.Option.the-variants.{None};
-ghost use Rattle.sheet.specs.Openings.{openedFrom, cellsAnswer, headerAnswer, rowAnswer, fileAnswer, afterFile};
+ghost use Rattle.tables.specs.Lines.{place};
+ghost use Rattle.sheet.specs.Openings.{openedFrom, cellsAnswer, headerAnswer, fileAnswer, afterFile};
 ghost use Rattle.sheet.specs.Sheets.{rowsOf, rowMemory, takenMemory, Opened};
 use crate::memory::Lent;
 use crate::memory::load_rows;
@@ -70,7 +71,7 @@ impl<'m> Sheet<'m> {
 
     /// The row of a number counted from 0; 28 where there is none.
     pub fn row(&self, i: usize) -> Result<Row, Refusal>
-        ensures { λ r. ⌜ r ≡ rowAnswer (rowsOf (now (self .entry))) i ⌝ }
+        ensures { λ r. ⌜ r ≡ place (rowsOf (now (self .entry))) i ⌝ }
     {
         let rows = self.rows.first(self.len);
         if i < rows.len() {
