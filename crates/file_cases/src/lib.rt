@@ -1,5 +1,7 @@
 //! Files, and what an opening says of each.
 use model::Row;
+use reading::stage::Part;
+use reading::text::scan_text;
 use sheet::sheet::Sheet;
 
 /// Number, line and word of the refusal of a file by a sheet with memory for four rows; zeros where it is accepted.
@@ -17,6 +19,14 @@ pub fn outcome_without_memory(file: &[u8]) -> (u8, usize, usize) {
     let mut sheet = Sheet::new(&mut [], &mut []);
     match sheet.open(file) {
         Ok(()) => (0, 0, 0),
+        Err(refusal) => (refusal.number(), refusal.line(), refusal.word()),
+    }
+}
+
+/// Number, line and word of the refusal of a block of rows; zeros where it is a block.
+pub fn block_outcome(block: &[u8]) -> (u8, usize, usize) {
+    match scan_text(block, Part::Block, None) {
+        Ok(_) => (0, 0, 0),
         Err(refusal) => (refusal.number(), refusal.line(), refusal.word()),
     }
 }
@@ -508,5 +518,34 @@ mod tests {
         check_eq(outcome(&longest), (11, 1, 0))?;
         let longer = vec![in rt.alloc(); b' '; 2_097_153]?;
         check_eq(outcome(&longer), (12, 0, 0))
+    }
+
+    #[test]
+    fn blocks() -> Result<(), Fail> {
+        check_eq(
+            block_outcome(b"10 0 59366 60 0 1 2 3\n00\n10 0 59366 61 0 1 2 3\n"),
+            (0, 0, 0),
+        )?;
+        check_eq(
+            block_outcome(b"00\n10 0 59366 60 0 1 2 3\n20 0 1 2 3\n"),
+            (0, 0, 0),
+        )?;
+        check_eq(block_outcome(b""), (14, 1, 0))?;
+        check_eq(block_outcome(b"00\n00\n"), (14, 3, 0))?;
+        check_eq(block_outcome(b"H9\n"), (14, 1, 0))?;
+        check_eq(block_outcome(b"10 0 59366 60 0 1 2 3\n99\n"), (14, 2, 0))?;
+        check_eq(
+            block_outcome(b"10 0 59366 60 0 1 2 3\n20 0 1 2 3\n10 0 59366 61 0 1 2 3\n"),
+            (14, 4, 0),
+        )?;
+        check_eq(
+            block_outcome(b"10 0 59366 60 0 1 2 3\n10 0 59366 60 0 1 2 3\n"),
+            (18, 2, 0),
+        )?;
+        check_eq(
+            block_outcome(b"10 0 59366 60 1 1 2 3\n10 0 59366 61 -1 1 2 3\n"),
+            (19, 2, 0),
+        )?;
+        check_eq(block_outcome(b"10 0 59366 60 0 1 2 3x\n"), (16, 1, 8))
     }
 }

@@ -2,6 +2,7 @@
 ghost use mathlib.Core.Path.{_≡_};
 ghost use lib.ListN.{length};
 ghost use Rattle.rewrite.specs.Rewriting.{rewritten, rewrittenOutput};
+use format::open::open_file;
 use model::Row;
 use refusal::Refusal;
 use sheet::sheet::Sheet;
@@ -25,6 +26,6 @@ pub fn rewrite(input: &[u8], rows: &mut [Row], out: &mut [u8]) -> Result<usize, 
         return Err(Refusal::TooLong { line: 0 });
     }
     let mut sheet = Sheet::new(rows, &mut []);
-    sheet.open(input)?;
+    open_file(&mut sheet, input)?;
     sheet.write(out)
 }

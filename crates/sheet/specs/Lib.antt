@@ -1,2 +1,3 @@
 pub mod Openings
+pub mod Journals
 pub mod Sheets

@@ -1,5 +1,5 @@
 use mathlib.Core.Path.{_≡_}
-use mathlib.Core.List.{List}
+use mathlib.Core.List.{List, []}
 use Prim.Native.Nat.{ℕ}
 use lib.ListN.{length, take}
 use denote.Ref.{now}
@@ -11,6 +11,7 @@ use Rattle.refusal.specs.declared.Refusal.{Refusal}
 use Rattle.model.specs.declared.Row.{Row}
 use Rattle.sheet.specs.declared.sheet.Sheet.{Sheet}
 use Rattle.sheet.specs.Openings.{Contents}
+use Rattle.sheet.specs.Journals.{entriesOf}
 
 -- the rows of a sheet
 abbrev pub rowsOf : Sheet → List Row
@@ -27,13 +28,17 @@ takenMemory s = now (s .taken .cells)
 pub record Unchanged (s t : Sheet) : Type 0 where
   pub header : t .header ≡ s .header
   pub len : t .len ≡ s .len
+  pub journal : t .journal ≡ s .journal
+  pub changes : t .changes ≡ s .changes
   pub rows : rowMemory t ≡ rowMemory s
   pub taken : takenMemory t ≡ takenMemory s
 
--- the sheet holds a file's contents, in memory as large as before
+-- the sheet holds a file's contents, with an empty journal and no changes, in memory as large as before
 pub record Holds (c : Contents) (s t : Sheet) : Type 0 where
   pub header : t .header ≡ Some (c .header)
   pub rows : rowsOf t ≡ c .rows
+  pub journal : entriesOf (t .journal) ≡ []
+  pub changes : t .changes ≡ 0
   pub room : length (rowMemory t) ≡ length (rowMemory s)
   pub taken : takenMemory t ≡ takenMemory s
 

@@ -4,6 +4,7 @@ ghost use Prim.Native.Nat.{_≤_};
 ghost use lib.ListN.{length, take};
 ghost use denote.Ref.{now};
 ghost use Rattle.tables.specs.Lines.{ascends};
+use crate::journal::Journal;
 use crate::memory::Lent;
 use model::Row;
 use model::header::Header;
@@ -23,6 +24,9 @@ pub struct Sheet<'m> {
     len: usize,
     /// None while no file is open.
     header: Option<Header>,
+    journal: Journal,
+    /// How many edits and undos were accepted since the opening.
+    changes: u32,
     ghost inside: { len ≤ length (now (rows .cells)) },
     ghost few: { len ≤ 8192 },
     ghost up: { ascends (take len (now (rows .cells))) ≡ true },

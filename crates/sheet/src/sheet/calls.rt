@@ -5,8 +5,11 @@ ghost use lib.ListN.{length};
 ghost use denote.Ref.{now, name};
 ghost use Rattle.std.specs.declared.option.Option.the-variants.{None};
 ghost use Rattle.tables.specs.Lines.{place};
+ghost use Rattle.sheet.specs.Journals.{entriesOf};
 ghost use Rattle.sheet.specs.Openings.{openedFrom, cellsAnswer, headerAnswer, fileAnswer, afterFile};
 ghost use Rattle.sheet.specs.Sheets.{rowsOf, rowMemory, takenMemory, Opened};
+use crate::journal::Entry;
+use crate::journal::Journal;
 use crate::memory::Lent;
 use crate::memory::load_rows;
 use crate::sheet::MOST_ROWS;
@@ -23,7 +26,7 @@ use writing::file::write_file;
 impl<'m> Sheet<'m> {
     /// An empty sheet, with no file open, over memory for rows and for rows taken out.
     pub fn new(rows: &'m mut [Row], taken: &'m mut [Row]) -> Sheet<'m>
-        ensures empty { λ r. ⌜ (rowsOf r ≡ []) × (r .header ≡ None) ⌝ }
+        ensures empty { λ r. ⌜ (rowsOf r ≡ []) × (r .header ≡ None) × (entriesOf (r .journal) ≡ []) × (r .changes ≡ 0) ⌝ }
         ensures memory { λ r. ⌜ (rowMemory r ≡ now (rows .entry)) × (takenMemory r ≡ now (taken .entry)) ⌝ }
         ensures lent { λ r. ⌜ (name (r .rows .cells) ≡ name (rows .entry)) × (name (r .taken .cells) ≡ name (taken .entry)) ⌝ }
     {
@@ -32,6 +35,8 @@ impl<'m> Sheet<'m> {
             taken: Lent::new(taken),
             len: 0,
             header: None,
+            journal: Journal::new(),
+            changes: 0,
         }
     }
 
@@ -43,6 +48,8 @@ impl<'m> Sheet<'m> {
         let scan = scan_text(file, Part::File, Some(room))?;
         self.len = load_rows(&mut self.rows, file);
         self.header = Some(scan.header);
+        self.journal = Journal::new();
+        self.changes = 0;
         Ok(())
     }
 
@@ -79,6 +86,27 @@ impl<'m> Sheet<'m> {
         } else {
             Err(Refusal::NoSuchNumber)
         }
+    }
+
+    /// How many entries the journal has.
+    pub fn journal_len(&self) -> usize
+        ensures { λ r. ⌜ r ≡ length (entriesOf (now (self .entry) .journal)) ⌝ }
+    {
+        self.journal.count()
+    }
+
+    /// The journal's entry of a number, 0 being the newest; 28 where there is none.
+    pub fn entry(&self, i: usize) -> Result<Entry, Refusal>
+        ensures { λ r. ⌜ r ≡ place (entriesOf (now (self .entry) .journal)) i ⌝ }
+    {
+        self.journal.entry(i)
+    }
+
+    /// How many edits and undos were accepted since the opening.
+    pub fn change_count(&self) -> u32
+        ensures { λ r. ⌜ r ≡ now (self .entry) .changes ⌝ }
+    {
+        self.changes
     }
 
     /// Writes the canonical file at the start of the output, and answers its length. Refusals: 24, 33, which leave the output as it

@@ -42,5 +42,5 @@ returns c =
     let told = ap (λ k. contentsBy (scanOf File (Some k) file) (rowsIn file)) (sym n) ∙ ap (λ r. contentsBy r (rowsIn file)) (sym (c .in-Continue-scan .ensures tt)) in (
       record { header = c .in-Continue-scan .scan .header; rows = rowsIn file },
       told,
-      record { header = refl; rows = c .load-rows-self .ensures .rows; room = c .load-rows-self .ensures .len; taken = refl },
+      record { header = refl; rows = c .load-rows-self .ensures .rows; journal = c .new-self .ensures; changes = refl; room = c .load-rows-self .ensures .len; taken = refl },
     )

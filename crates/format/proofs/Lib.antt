@@ -1,0 +1,11 @@
+pub mod Common
+pub mod TextLaws
+pub mod WordLaws
+pub mod RecordLaws
+pub mod StepLaws
+pub mod RowLaws
+pub mod StageLaws
+pub mod OrderLaws
+pub mod OrderBack
+pub mod Exact
+pub mod OpenLaws

@@ -1,0 +1,16 @@
+pub mod Basics
+pub mod LineLaws
+pub mod Rooms
+pub mod FieldLaws
+pub mod RecordLaws
+pub mod Passes
+pub mod BuildLaws
+pub mod SpanLaws
+pub mod HeaderPasses
+pub mod RowPasses
+pub mod FileLaws
+pub mod ReadLaws
+pub mod BuiltLaws
+pub mod Held
+pub mod HeldLines
+pub mod OpeningLaws
