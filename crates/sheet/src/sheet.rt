@@ -10,6 +10,7 @@ use model::Row;
 use model::header::Header;
 
 pub mod calls;
+pub mod history;
 pub mod table;
 
 /// The most rows of a sheet.

@@ -12,7 +12,7 @@ use refusal::Refusal;
 
 impl Journal {
     /// A journal without entries.
-    pub fn new() -> Journal
+    pub(crate) fn new() -> Journal
         ensures { λ r. ⌜ entriesOf r ≡ [] ⌝ }
     {
         Journal {
@@ -27,14 +27,14 @@ impl Journal {
     }
 
     /// How many entries there are.
-    pub fn count(&self) -> usize
+    pub(crate) fn count(&self) -> usize
         ensures { λ r. ⌜ r ≡ length (entriesOf (now (self .entry))) ⌝ }
     {
         self.len
     }
 
     /// The entry of a number, 0 being the newest; 28 where there is none.
-    pub fn entry(&self, i: usize) -> Result<Entry, Refusal>
+    pub(crate) fn entry(&self, i: usize) -> Result<Entry, Refusal>
         ensures { λ r. ⌜ r ≡ place (entriesOf (now (self .entry))) i ⌝ }
     {
         if i < self.len {

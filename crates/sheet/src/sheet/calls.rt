@@ -8,7 +8,6 @@ ghost use Rattle.tables.specs.Lines.{place};
 ghost use Rattle.sheet.specs.Journals.{entriesOf};
 ghost use Rattle.sheet.specs.Openings.{openedFrom, cellsAnswer, headerAnswer, fileAnswer, afterFile};
 ghost use Rattle.sheet.specs.Sheets.{rowsOf, rowMemory, takenMemory, Opened};
-use crate::journal::Entry;
 use crate::journal::Journal;
 use crate::memory::Lent;
 use crate::memory::load_rows;
@@ -86,27 +85,6 @@ impl<'m> Sheet<'m> {
         } else {
             Err(Refusal::NoSuchNumber)
         }
-    }
-
-    /// How many entries the journal has.
-    pub fn journal_len(&self) -> usize
-        ensures { λ r. ⌜ r ≡ length (entriesOf (now (self .entry) .journal)) ⌝ }
-    {
-        self.journal.count()
-    }
-
-    /// The journal's entry of a number, 0 being the newest; 28 where there is none.
-    pub fn entry(&self, i: usize) -> Result<Entry, Refusal>
-        ensures { λ r. ⌜ r ≡ place (entriesOf (now (self .entry) .journal)) i ⌝ }
-    {
-        self.journal.entry(i)
-    }
-
-    /// How many edits and undos were accepted since the opening.
-    pub fn change_count(&self) -> u32
-        ensures { λ r. ⌜ r ≡ now (self .entry) .changes ⌝ }
-    {
-        self.changes
     }
 
     /// Writes the canonical file at the start of the output, and answers its length. Refusals: 24, 33, which leave the output as it
