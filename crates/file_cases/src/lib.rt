@@ -548,4 +548,38 @@ mod tests {
         )?;
         check_eq(block_outcome(b"10 0 59366 60 0 1 2 3x\n"), (16, 1, 8))
     }
+
+    const FULLEST: &str = "H2 1 1 1 2021 6 1 0 0 0 2021 6 1 2 16 31 1 1 1 0 0 0 1\n";
+
+    // a file of so many rows, a second apart
+    fn rows_of(heap: Global, count: usize) -> Result<String, AllocError> {
+        let mut file = String::from_str(heap, H1)?;
+        file.push_str(FULLEST)?;
+        file.push_str("H9\n")?;
+        for k in 0..count {
+            file.push_str(format!(heap, "10 0 59366 {k} 0 1 2 3\n")?.as_str())?;
+        }
+        file.push_str("99\n")?;
+        Ok(file)
+    }
+
+    #[test]
+    fn fullest_sheet(rt: LibcRuntime) -> Result<(), Fail> {
+        let mut rows = vec![in rt.alloc(); Row::blank(); 9_000]?;
+        let mut sheet = Sheet::new(&mut rows, &mut []);
+        let fullest = rows_of(rt.alloc(), 8_192)?;
+        check(sheet.open(fullest.as_bytes()).is_ok())?;
+        let fuller = rows_of(rt.alloc(), 8_193)?;
+        match sheet.open(fuller.as_bytes()) {
+            Ok(()) => check(false)?,
+            Err(refusal) => check_eq(
+                (refusal.number(), refusal.line(), refusal.word()),
+                (21, 8_196, 0),
+            )?,
+        }
+        match sheet.cells() {
+            Ok(cells) => check_eq((cells.count, cells.interval), (8_192, 1)),
+            Err(refusal) => check_eq(refusal.number(), 0),
+        }
+    }
 }
