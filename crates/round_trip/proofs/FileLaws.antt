@@ -34,7 +34,8 @@ use Rattle.writing.proofs.FileLaws.{file-is}
 use Rattle.sheet.specs.Openings.{contentsBy}
 use Rattle.round_trip.specs.Lines.{allLines}
 use Rattle.round_trip.specs.Contents.{GoodHeader, GoodRows}
-use Rattle.round_trip.specs.Files.{Files-read-back, Files-are-short}
+use Rattle.format.proofs.Exact.{opening-exact}
+use Rattle.round_trip.specs.Files.{Files-read-back, Canonical-files-are-files, Files-are-short}
 use Rattle.round_trip.proofs.LineLaws.{lines-split}
 use Rattle.round_trip.proofs.Passes.{Passes, none-good, passes-both, passes-record}
 use Rattle.round_trip.proofs.SpanLaws.{good-cells, span-agrees}
@@ -99,3 +100,6 @@ files-are-short h (r ∷ rs) g k =
     let p = file-pass (length (r ∷ rs)) h r rs g k (omega arith) in
     let bytes = rows-room (r ∷ rs) in
     omega (arith, p .fits)
+
+pub canonical-files-are-files : Canonical-files-are-files
+canonical-files-are-files h rows g k few = opening-exact 8192 (canonical h rows) h rows .0 (files-read-back 8192 h rows g k (omega arith)) .0

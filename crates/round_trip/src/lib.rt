@@ -1,5 +1,5 @@
 //! What is written is read back: each law as the contract of a function.
-ghost use Rattle.round_trip.specs.Files.{Files-read-back, Files-are-short};
+ghost use Rattle.round_trip.specs.Files.{Files-read-back, Canonical-files-are-files, Files-are-short};
 ghost use Rattle.round_trip.specs.Lines.{Lines-split};
 ghost use Rattle.round_trip.specs.Openings.{Openings-are-good, Rewritten-files-open, Rewriting-settles};
 ghost use Rattle.round_trip.specs.Records.{Records-read-back};
@@ -18,9 +18,10 @@ pub fn lines_split() -> u8
     0
 }
 
-/// The canonical file of a header and rows that a file can have opens, and has this header and these rows.
+/// The canonical file of a header and rows that a file can have is a file of the format with this header and these rows, and it opens.
 pub fn files_read_back() -> u8
-    ensures { λ _. ⌜ Files-read-back ⌝ }
+    ensures file { λ _. ⌜ Canonical-files-are-files ⌝ }
+    ensures opens { λ _. ⌜ Files-read-back ⌝ }
 {
     0
 }
