@@ -1,2 +1,4 @@
 //! A closed sheet: the header and the rows that a sheet had, for reading.
+#![tactic(auto)]
+
 pub mod closed;

@@ -1,4 +1,6 @@
 //! What is wrong with a line of a script.
+#![tactic(auto)]
+
 use std::fmt;
 
 /// What is wrong with a line. Words are counted from 1; the command's name is the first.

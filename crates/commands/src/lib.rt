@@ -1,4 +1,6 @@
 //! The commands of a script: what a line asks for.
+#![tactic(auto)]
+
 mod arguments;
 pub mod command;
 mod kind;

@@ -1,4 +1,6 @@
 //! Lines of scripts, and what each asks for.
+#![tactic(auto)]
+
 use command_error::CommandError;
 use commands::command::Command;
 use std::alloc::{AllocError, Global};

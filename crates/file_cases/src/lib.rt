@@ -1,4 +1,6 @@
 //! Files, and what an opening says of each.
+#![tactic(auto)]
+
 use model::Row;
 use reading::stage::Part;
 use reading::text::scan_text;

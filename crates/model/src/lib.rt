@@ -1,4 +1,6 @@
 //! What a prediction sheet holds: rows, and the header.
+#![tactic(auto)]
+
 pub mod flags;
 pub mod header;
 pub mod name;

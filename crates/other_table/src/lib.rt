@@ -1,5 +1,7 @@
 //! A prediction table by another author: rows at even steps, computed and not stored. It gets the search, the window
 //! and the shifts of every prediction table.
+#![tactic(auto)]
+
 pub mod even_table;
 
 #[cfg(test)]

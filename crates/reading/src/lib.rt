@@ -1,4 +1,6 @@
 //! Reading: a text is checked line by line from its first byte to its last, and only then are its rows stored.
+#![tactic(auto)]
+
 pub mod build;
 pub mod part;
 pub mod scan;

@@ -1,4 +1,6 @@
 //! The refusals: every call that says no answers one of these.
+#![tactic(auto)]
+
 ghost use Rattle.std.specs.Prelude.{◌≡◌};
 ghost use Rattle.refusal.specs.Numbers.{number_of, line_of, word_of};
 

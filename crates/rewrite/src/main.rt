@@ -1,4 +1,6 @@
 //! Reads a CPF file on standard input and writes its canonical form, or why it is refused.
+#![tactic(auto)]
+
 use model::Row;
 use rewriting::{LONGEST_INPUT, LONGEST_OUTPUT, MOST_ROWS, rewrite};
 use std::io;

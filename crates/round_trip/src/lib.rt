@@ -1,4 +1,6 @@
 //! What is written is read back: each law as the contract of a function.
+#![tactic(auto)]
+
 ghost use Rattle.round_trip.specs.Blocks.{BlocksAreGood};
 ghost use Rattle.round_trip.specs.Files.{FilesReadBack, CanonicalFilesAreFiles, FilesAreShort};
 ghost use Rattle.round_trip.specs.Lines.{LinesSplit};

@@ -1,4 +1,6 @@
 //! What holds after every run of openings, pastes, cuts and undos.
+#![tactic(auto)]
+
 ghost use Rattle.runs.specs.Outcomes.{RunsExist, RunsAreDetermined};
 ghost use Rattle.runs.specs.Promises.{ReopeningAgrees, PlainSheetAgrees};
 ghost use Rattle.shifts.specs.Stacks.{StackedShifts};

@@ -1,4 +1,6 @@
 //! Replays a script of calls on a prediction sheet, one command a line, and prints the answers.
+#![tactic(auto)]
+
 use command::Command;
 use model::Row;
 use reading::text::LONGEST_TEXT;

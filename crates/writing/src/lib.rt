@@ -1,4 +1,6 @@
 //! The canonical file of a header and rows: a function of these alone.
+#![tactic(auto)]
+
 mod fields;
 pub mod file;
 mod header;

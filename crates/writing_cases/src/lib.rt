@@ -1,4 +1,6 @@
 //! Files, and what is written of each.
+#![tactic(auto)]
+
 use format::open::open_file;
 use model::Row;
 use refusal::Refusal;
