@@ -5,8 +5,8 @@ use Rattle.calendar.proofs.date.days_before_year.Goals as goal
 pub loop-earlier-init : goal.loop-earlier-init
 loop-earlier-init c = sym no_years
 
-pub overflow-add-days : goal.overflow-add-days
-overflow-add-days c = omega (arith, year_fits c.loop-earlier.earlier (omega arith) (omega arith))
+pub overflow_add-days : goal.overflow_add-days
+overflow_add-days c = omega (arith, year_fits c.loop-earlier.earlier (omega arith) (omega arith))
 
 pub loop-earlier-preserved : goal.loop-earlier-preserved
 loop-earlier-preserved c = omega (arith, year_more c.loop-earlier.earlier (omega arith))

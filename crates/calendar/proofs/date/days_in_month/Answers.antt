@@ -7,9 +7,9 @@ pub returns-in-1 : goal.returns-in-1
 unfolding days_in_month short
 returns-in-1 c = grind (arith, nat_tests)
 
-pub returns-in-1·2 : goal.returns-in-1·2
+pub returns-in-1-2 : goal.returns-in-1-2
 unfolding days_in_month short
-returns-in-1·2 c = grind (arith, nat_tests)
+returns-in-1-2 c = grind (arith, nat_tests)
 
 pub returns-in-4 : goal.returns-in-4
 unfolding days_in_month short
@@ -23,10 +23,10 @@ pub returns-in-2-2 : goal.returns-in-2-2
 unfolding days_in_month short
 returns-in-2-2 c = grind (arith, nat_tests)
 
-pub returns-in-default : goal.returns-in-default
+pub returns-in_default : goal.returns-in_default
 unfolding days_in_month short
-returns-in-default c = grind (arith, nat_tests)
+returns-in_default c = grind (arith, nat_tests)
 
-pub returns-in-default·2 : goal.returns-in-default·2
+pub returns-in_default-2 : goal.returns-in_default-2
 unfolding days_in_month short
-returns-in-default·2 c = grind (arith, nat_tests)
+returns-in_default-2 c = grind (arith, nat_tests)
