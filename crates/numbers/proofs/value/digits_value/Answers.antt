@@ -13,14 +13,14 @@ digit c = All-get_or Digit c.args.digits.now c.loop-digit.digit-index 0 c.loop-d
 small : (c : In-loop-digit) → c.loop-digit.value < 10 ^ 11
 small c = digits.below c.loop-digit.value c.loop-digit.digit-index 11 c.loop-digit.invariant.1 (omega arith)
 
-pub overflow-mul-value : goal.overflow-mul-value
-overflow-mul-value c = omega (arith, small (goal.at.overflow-mul-value c).In-loop-digit)
+pub overflow_mul-value : goal.overflow_mul-value
+overflow_mul-value c = omega (arith, small (goal.at.overflow_mul-value c).In-loop-digit)
 
-pub overflow-sub-digit : goal.overflow-sub-digit
-overflow-sub-digit c = (digit (goal.at.overflow-sub-digit c).In-loop-digit).0
+pub overflow_sub-digit : goal.overflow_sub-digit
+overflow_sub-digit c = (digit (goal.at.overflow_sub-digit c).In-loop-digit).0
 
-pub overflow-add-value : goal.overflow-add-value
-overflow-add-value c = omega (arith, small (goal.at.overflow-add-value c).In-loop-digit)
+pub overflow_add-value : goal.overflow_add-value
+overflow_add-value c = omega (arith, small (goal.at.overflow_add-value c).In-loop-digit)
 
 pub loop-digit-preserved : goal.loop-digit-preserved
 loop-digit-preserved c =

@@ -8,6 +8,6 @@ returns c =
     let back = c.args.fraction.now in
     let d = c.args.places in
     record {
-      is = rw (c.power-of-ten.ensures, c.digits-value.ensures.is);
-      small = rw c.power-of-ten.ensures (digits.fraction_short c.digits-value.result (length back) d c.digits-value.ensures.small (leb-true (length back) d c.requires.1.0));
+      is = rw (c.power_of_ten.ensures, c.digits_value.ensures.is);
+      small = rw c.power_of_ten.ensures (digits.fraction_short c.digits_value.result (length back) d c.digits_value.ensures.small (leb-true (length back) d c.requires.1.0));
     }

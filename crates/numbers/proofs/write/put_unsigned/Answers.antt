@@ -11,8 +11,8 @@ back-init c = (ap (λ l. last_digits c.args.places c.args.value ++ l) (drop_all 
 back_room : (c : In-back) → 1 ≤ c.back.start
 back_room c = omega (arith, puts.room_places c.args.value c.args.places (omega arith) (omega arith))
 
-pub overflow-sub-start : goal.overflow-sub-start
-overflow-sub-start c = back_room c
+pub overflow_sub-start : goal.overflow_sub-start
+overflow_sub-start c = back_room c
 
 pub bounds-field-start : goal.bounds-field-start
 bounds-field-start c = omega (arith, back_room c)
@@ -29,8 +29,8 @@ back-preserved c =
       omega arith,
     )
 
-pub overflow-sub-start-then-places-gt0 : goal.overflow-sub-start-then-places-gt0
-overflow-sub-start-then-places-gt0 c = omega (arith, puts.room_places c.args.value c.args.places (omega arith) c.if-places-gt0.true)
+pub overflow_sub-start-then-places-gt0 : goal.overflow_sub-start-then-places-gt0
+overflow_sub-start-then-places-gt0 c = omega (arith, puts.room_places c.args.value c.args.places (omega arith) c.if-places-gt0.true)
 
 pub front-init : goal.front-init
 front-init c =
@@ -54,8 +54,8 @@ front-init c =
 front_room : (c : At-front) → 1 ≤ c.front.start
 front_room c = puts.front_room c.front.rest c.front.start c.front.field _ (omega arith) c.front.invariant.1 c.front.invariant.0 (omega arith)
 
-pub overflow-sub-start-in-front : goal.overflow-sub-start-in-front
-overflow-sub-start-in-front c = front_room (goal.at.overflow-sub-start-in-front c).At-front
+pub overflow_sub-start-in-front : goal.overflow_sub-start-in-front
+overflow_sub-start-in-front c = front_room (goal.at.overflow_sub-start-in-front c).At-front
 
 pub bounds-field-start-in-front : goal.bounds-field-start-in-front
 bounds-field-start-in-front c = omega (arith, front_room (goal.at.bounds-field-start-in-front c).At-front)
@@ -69,8 +69,8 @@ front-preserved c =
       omega arith,
     )
 
-pub overflow-sub-start-2 : goal.overflow-sub-start-2
-overflow-sub-start-2 c = front_room (goal.at.overflow-sub-start-2 c).At-front
+pub overflow_sub-start-2 : goal.overflow_sub-start-2
+overflow_sub-start-2 c = front_room (goal.at.overflow_sub-start-2 c).At-front
 
 pub bounds-field-start-2 : goal.bounds-field-start-2
 bounds-field-start-2 c = omega (arith, front_room (goal.at.bounds-field-start-2 c).At-front)

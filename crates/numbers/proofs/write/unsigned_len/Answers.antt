@@ -2,15 +2,15 @@ use Rattle.std.proofs.Common.{◌≡◌, ◌/◌, ◌^◌, length, decimal, ap, 
 use Rattle.numbers.proofs.Lengths as lengths
 use Rattle.numbers.proofs.write.unsigned_len.Goals as goal
 
-pub overflow-add-result : goal.overflow-add-result
-overflow-add-result c = omega (arith, lengths.digits_le c.whole-part.result c.whole-part.type-inv)
+pub overflow_add-result : goal.overflow_add-result
+overflow_add-result c = omega (arith, lengths.digits_le c.whole_part.result c.whole_part.type_inv)
 
-pub overflow-add-result-else-places-eq0 : goal.overflow-add-result-else-places-eq0
-overflow-add-result-else-places-eq0 c = omega (arith, lengths.digits_le c.whole-part.result c.whole-part.type-inv)
+pub overflow_add-result-else-places-eq0 : goal.overflow_add-result-else-places-eq0
+overflow_add-result-else-places-eq0 c = omega (arith, lengths.digits_le c.whole_part.result c.whole_part.type_inv)
 
 pub returns-else-places-eq0 : goal.returns-else-places-eq0
 returns-else-places-eq0 c =
     let n = c.args.value in
     let d = c.args.places in
-    let e : length (decimal c.whole-part.result) ≡ length (decimal (n / 10 ^ d)) = ap (λ m. length (decimal m)) c.whole-part.ensures in
+    let e : length (decimal c.whole_part.result) ≡ length (decimal (n / 10 ^ d)) = ap (λ m. length (decimal m)) c.whole_part.ensures in
     omega (arith, lengths.length_unsigned n d, lengths.length_fraction d n (omega arith))

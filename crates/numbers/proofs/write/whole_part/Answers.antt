@@ -6,4 +6,4 @@ pub loop-place-init : goal.loop-place-init
 loop-place-init c = sym (div-one c.args.value)
 
 pub loop-place-preserved : goal.loop-place-preserved
-loop-place-preserved c = ap (λ n. n / 10) c.loop-place.invariant ∙ puts.div_more c.args.value c.loop-place.-place
+loop-place-preserved c = ap (λ n. n / 10) c.loop-place.invariant ∙ puts.div_more c.args.value c.loop-place._place
