@@ -4,8 +4,8 @@ use Rattle.std.proofs.lemmas.Bool.Decides.{nat_tests}
 use Rattle.lines.proofs.LineLaws.{end_more, end_all, ended_inside}
 use Rattle.lines.proofs.scan.scan.Goals as goal
 
-pub returns-then-b-eq-LINE-END : goal.returns-then-b-eq-LINE-END
-returns-then-b-eq-LINE-END c =
+pub returns-then-b-eq-LINE_END : goal.returns-then-b-eq-LINE_END
+returns-then-b-eq-LINE_END c =
     record {
       is = grind (arith, nat_tests, end_more, c.ended.ensures);
       inside = subst (λ e. Inside e (length c.args.text.now)) (sym c.ended.ensures) (ended_inside _ _ (search rules));
