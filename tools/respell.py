@@ -89,7 +89,8 @@ def main(argv):
         return 0
     changed = 0
     names = names | PARAMETERS
-    in_proofs = names | {n: n + "_lem" for n in LEMMAS}
+    # only in the run that gives a definition the name
+    in_proofs = names | {n: n + "_lem" for n in LEMMAS if n in names.values()}
     for path in files(root, (".antt", ".rt")):
         with open(path, encoding="utf-8") as f:
             text = f.read()

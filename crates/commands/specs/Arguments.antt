@@ -13,15 +13,15 @@ and_then (Ok x) f = f x
 and_then (Err e) f = Err e
 
 -- the value, or the error that the word is no number
-abbrev pub or_not_a_number : {T : Type 0} → ℕ → Option T → Result T CommandError
-or_not_a_number place None = Err (NotANumber place)
-or_not_a_number place (Some x) = Ok x
+abbrev pub or_not_aNumber : {T : Type 0} → ℕ → Option T → Result T CommandError
+or_not_aNumber place None = Err (NotANumber place)
+or_not_aNumber place (Some x) = Ok x
 
 abbrev pub word_at : List (List ℕ) → ℕ → List ℕ
 word_at ws place = slice_index_or ws (place - 1) []
 
 abbrev pub number_at : ℕ → List (List ℕ) → ℕ → Result ℕ CommandError
-number_at most ws place = or_not_a_number place (numeral_of most (word_at ws place))
+number_at most ws place = or_not_aNumber place (numeral_of most (word_at ws place))
 
 -- the number of a row or of a journal entry
 abbrev pub index_at : List (List ℕ) → ℕ → Result ℕ CommandError
@@ -37,7 +37,7 @@ moment_at ws place =
     and_then (number_at (2 ^ 32 - 1) ws place) (λ day. and_then (number_at (2 ^ 64 - 1) ws (place + 1)) (λ micros. Ok (record { day = day; micros = micros })))
 
 abbrev pub shift_at : List (List ℕ) → ℕ → Result ℤ CommandError
-shift_at ws place = or_not_a_number place (signed_of (word_at ws place))
+shift_at ws place = or_not_aNumber place (signed_of (word_at ws place))
 
 -- so many shifts from the fourth word on
 abbrev pub shifts_of : ℕ → List (List ℕ) → Result Shifts CommandError

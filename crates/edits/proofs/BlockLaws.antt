@@ -19,7 +19,7 @@ use Rattle.reading.specs.declared.part.RowPart.TheVariants as parts
 use Rattle.reading.specs.Builds.{row_of, velocity_of}
 use Rattle.reading.specs.Order.{next_stage, rows_done}
 use Rattle.reading.specs.Ends.{end_refusal, end_refusal_of}
-use Rattle.reading.specs.Scans.{started, row_refusal, with_row, on_ok, taken_if, taken, at_stage, with_stage, content_step, by_stage, by_record, line_step_lem}
+use Rattle.reading.specs.Scans.{started, row_refusal, with_row, on_ok, taken_if, taken, at_stage, with_stage, content_step, by_stage, by_record, line_step}
 use Rattle.reading.specs.Texts.{scan_end_by, on_scan, scan_lines, scan_from, scan_of}
 use Rattle.reading.specs.Stores.{completed, with_part, position_part, velocity_part, part_by_record, part_by_type, part_of, rows_with, rows_on, rows_in}
 use Rattle.edits.specs.Checks.{none, moving, is_some}
@@ -182,7 +182,7 @@ module _ (n : ℕ) (l : List ℕ) (s u : Scan) (rows : List Row) (i : Reads s ro
   record_reads None h = never (cc)
   record_reads (Some t) h = place_reads t (next_stage s.part s.stage t) (ap (λ p. next_stage p s.stage t) i.block) h
 
-  line_reads : line_step_lem n l s ≡ Ok u → Reads u (rows_with n rows l)
+  line_reads : line_step n l s ≡ Ok u → Reads u (rows_with n rows l)
   line_reads h = record_reads (record_of l) h
 
 -- what is known of the rows of an accepted block
@@ -220,7 +220,7 @@ on_told n ls e u P (Err x) h q = never (cc)
 lines_told : (n : ℕ) (ls : List (List ℕ)) (e : Ending) (s u : Scan) (rows : List Row) → Reads s rows → scan_lines n ls e s ≡ Ok u → Told u (rows_on n ls rows)
 lines_told n [] e s u rows i h = end_told s u n rows (ending_refusal (n + 1) e) i h
 lines_told n (l ∷ ls) e s u rows i h =
-    on_told n ls e u (Told u (rows_on n (l ∷ ls) rows)) (line_step_lem (n + 1) l s)
+    on_told n ls e u (Told u (rows_on n (l ∷ ls) rows)) (line_step (n + 1) l s)
     (λ v p q. lines_told (n + 1) ls e v u (rows_with (n + 1) rows l) (line_reads (n + 1) l s v rows i p) q) h
 
 pub block_told : (bs : List ℕ) (u : Scan) → scan_of Block None bs ≡ Ok u → Told u (rows_in bs)

@@ -7,7 +7,7 @@ use Rattle.calendar.specs.declared.instant.Instant.{Instant}
 use Rattle.calendar.specs.Instants.{moment, in_calendar, instant_of, instant_if}
 use Rattle.calendar.proofs.Moments.{instant_of_pair}
 use Rattle.model.specs.declared.Row.{Row}
-use Rattle.tables.specs.Lines.{time_of, not_after_lem, earlier, ascends}
+use Rattle.tables.specs.Lines.{time_of, not_after, earlier, ascends}
 use Rattle.journal.specs.declared.journal.Edit.TheVariants.{Cut}
 use Rattle.edits.specs.declared.place.Place.{Place}
 use Rattle.edits.specs.Changes.{Change, before, behind, between, change_at}
@@ -31,7 +31,7 @@ cut_in_order x y rows m h =
     (flags_without (before x rows) (between x y rows) (behind y rows) (ap flags_stay (split x y rows m p.0) ∙ p.1))
 
 module _ (hold x y : ℕ) (rows : List Row) (p : Place) (m : x ≤ y) (h : in_order rows ≡ true)
-    (first : p.first ≡ earlier (map time_of rows) x) (end : p.end ≡ not_after_lem (map time_of rows) y) (put : p.put ≡ 0) where
+    (first : p.first ≡ earlier (map time_of rows) x) (end : p.end ≡ not_after (map time_of rows) y) (put : p.put ≡ 0) where
   pub at_place : Placed Cut x y p.first p.end [] rows
   at_place = placed Cut x y p.first p.end [] rows m (and_parts (ascends rows) (flags_stay rows) h).0 first end
 

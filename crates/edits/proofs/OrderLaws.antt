@@ -17,7 +17,7 @@ use Rattle.reading.specs.declared.scan.Scan.{Scan}
 use Rattle.reading.specs.declared.stage.Part.{Part}
 use Rattle.reading.specs.declared.part.RowPart.{RowPart}
 use Rattle.reading.specs.declared.part.RowPart.TheVariants as parts
-use Rattle.reading.specs.Scans.{started, room_refusal, row_refusal_after, row_refusal, line_step_lem}
+use Rattle.reading.specs.Scans.{started, room_refusal, row_refusal_after, row_refusal, line_step}
 use Rattle.reading.specs.Texts.{on_scan, scan_lines, scan_from, scan_of}
 use Rattle.reading.specs.Stores.{completed, with_part, part_of, rows_with, rows_on, rows_in}
 use Rattle.reading.proofs.TrackLaws.{Step, same, added, line_step_lem, Tracks, tracks_line}
@@ -75,8 +75,8 @@ step_in_order : (n : ℕ) (p : RowPart) (s u : Scan) (rows : List Row) → s.sum
 step_in_order n p s u rows e h (same a b g) = part_in_order p rows g h
 step_in_order n p s u rows e h (added r a b c d) = ap (λ z. in_order (with_part rows z)) a ∙ added_in_order n s rows r e h b
 
-on_line_lem : (n : ℕ) (l : List ℕ) (ls : List (List ℕ)) (e : Ending) (s u : Scan) (rows : List Row) (r : Result Scan Refusal) → r ≡ line_step_lem (n + 1) l s
-    → ((v : Scan) → line_step_lem (n + 1) l s ≡ Ok v → scan_lines (n + 1) ls e v ≡ Ok u → in_order (rows_on n (l ∷ ls) rows) ≡ true)
+on_line_lem : (n : ℕ) (l : List ℕ) (ls : List (List ℕ)) (e : Ending) (s u : Scan) (rows : List Row) (r : Result Scan Refusal) → r ≡ line_step (n + 1) l s
+    → ((v : Scan) → line_step (n + 1) l s ≡ Ok v → scan_lines (n + 1) ls e v ≡ Ok u → in_order (rows_on n (l ∷ ls) rows) ≡ true)
     → on_scan r (λ v. scan_lines (n + 1) ls e v) ≡ Ok u → in_order (rows_on n (l ∷ ls) rows) ≡ true
 on_line_lem n l ls e s u rows (Err x) k h p = never (cc)
 on_line_lem n l ls e s u rows (Ok v) k h p = h v (sym k) p
@@ -84,7 +84,7 @@ on_line_lem n l ls e s u rows (Ok v) k h p = h v (sym k) p
 lines_in_order : (n : ℕ) (ls : List (List ℕ)) (e : Ending) (s u : Scan) (rows : List Row) (given : Option ℕ) → Tracks s rows given → in_order rows ≡ true → scan_lines n ls e s ≡ Ok u → in_order (rows_on n ls rows) ≡ true
 lines_in_order n [] e s u rows given t h q = h
 lines_in_order n (l ∷ ls) e s u rows given t h q =
-    on_line_lem n l ls e s u rows (line_step_lem (n + 1) l s) refl
+    on_line_lem n l ls e s u rows (line_step (n + 1) l s) refl
     (λ v k p. lines_in_order (n + 1) ls e v u (rows_with (n + 1) rows l) given (tracks_line (n + 1) l s v rows given t k) (step_in_order (n + 1) (part_of (n + 1) l) s v rows t.summary h (line_step_lem (n + 1) l s v k)) p) q
 
 pub text_in_order : (p : Part) (room : Option ℕ) (bs : List ℕ) (u : Scan) → scan_of p room bs ≡ Ok u → in_order (rows_in bs) ≡ true

@@ -11,7 +11,7 @@ use Rattle.cells.specs.declared.summary.Summary.{Summary}
 use Rattle.cells.specs.Cells.{extended_by, summary_if}
 use Rattle.cells.specs.Cells as cells
 use Rattle.cells.proofs.CellLaws.{count_by, first_by, first_flag_by, last_by}
-use Rattle.tables.specs.Lines.{time_of, not_after_lem, earlier, ascends}
+use Rattle.tables.specs.Lines.{time_of, not_after, earlier, ascends}
 use Rattle.reading.specs.declared.scan.Scan.{Scan}
 use Rattle.reading.specs.declared.stage.Part.TheVariants.{Block}
 use Rattle.reading.specs.Texts.{scan_of}
@@ -115,7 +115,7 @@ module _ (room hold : ℕ) (rows : List Row) (text : List ℕ) (u : Scan) (told 
       (ap (λ b. differ b (moving rows)) moves ∙ h)
 
   module _ (agree : differ (moving_at u.stage) (moving rows) ≡ false) (p : Place)
-      (first : p.first ≡ earlier (map time_of rows) (moment m.first)) (end : p.end ≡ not_after_lem (map time_of rows) (moment m.last)) (put : p.put ≡ m.count) where
+      (first : p.first ≡ earlier (map time_of rows) (moment m.first)) (end : p.end ≡ not_after (map time_of rows) (moment m.last)) (put : p.put ≡ m.count) where
     same_velocities : differ (moving block) (moving rows) ≡ false
     same_velocities = ap (λ b. differ b (moving rows)) moves ∙ agree
 
@@ -125,7 +125,7 @@ module _ (room hold : ℕ) (rows : List Row) (text : List ℕ) (u : Scan) (told 
     pub at_place : Placed Paste (first_moment block) (last_moment block) p.first p.end block rows
     at_place =
         placed Paste (first_moment block) (last_moment block) p.first p.end block rows (ordered_block block sums.some (and_parts (ascends block) (flags_stay block) block_in_order).0)
-        (and_parts (ascends rows) (flags_stay rows) order).0 (first ∙ ap (earlier (map time_of rows)) (sym sums.first)) (end ∙ ap (not_after_lem (map time_of rows)) (sym sums.last))
+        (and_parts (ascends rows) (flags_stay rows) order).0 (first ∙ ap (earlier (map time_of rows)) (sym sums.first)) (end ∙ ap (not_after (map time_of rows)) (sym sums.last))
 
     size_is : length c.rows ≡ length rows - (p.end - p.first) + m.count
     size_is = let z = at_place.size in let n = sums.count in let i = at_place.inside in let o = at_place.order in omega arith

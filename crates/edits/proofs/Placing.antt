@@ -4,7 +4,7 @@ use Rattle.std.proofs.lemmas.List.{take_at, drop_at, length-append, length-map}
 use Rattle.std.proofs.lemmas.Bool.{lt-ltb, le-ltb, le-leb, lt-leb, cases_lt}
 use Rattle.calendar.specs.Instants.{moment}
 use Rattle.model.specs.declared.Row.{Row}
-use Rattle.tables.specs.Lines.{time_of, not_after_lem, earlier, ascends}
+use Rattle.tables.specs.Lines.{time_of, not_after, earlier, ascends}
 use Rattle.tables.proofs.Orders.{not_after_le}
 use Rattle.journal.specs.declared.journal.Edit.{Edit}
 use Rattle.edits.specs.Changes.{moment_of, before, behind, between, Change, change_of, change_at}
@@ -17,7 +17,7 @@ none_earlier x z (r ∷ rs) l h =
     let a = p.0 in
     rw (le-ltb (moment_of r) x (omega arith), none_earlier x (moment_of r) rs (omega arith) p.1)
 
-none_not_after : (y z : ℕ) (rs : List Row) → y ≤ z → later z rs ≡ true → not_after_lem (map time_of rs) y ≡ 0
+none_not_after : (y z : ℕ) (rs : List Row) → y ≤ z → later z rs ≡ true → not_after (map time_of rs) y ≡ 0
 none_not_after y z [] l h = refl
 none_not_after y z (r ∷ rs) l h =
     let p = later_parts z r rs h in
@@ -39,16 +39,16 @@ before_take x (r ∷ rs) o =
     (cases_lt (moment_of r) x)
 
 -- and those after a moment stand last
-pub behind_drop : (y : ℕ) (rows : List Row) → ascends rows ≡ true → behind y rows ≡ drop (not_after_lem (map time_of rows) y) rows
+pub behind_drop : (y : ℕ) (rows : List Row) → ascends rows ≡ true → behind y rows ≡ drop (not_after (map time_of rows) y) rows
 behind_drop y [] h = refl
 behind_drop y (r ∷ rs) o =
     let h = ascends_tail r rs o in
     ⊎_elim
     (λ (l : y < moment_of r).
-    let n : not_after_lem (map time_of (r ∷ rs)) y ≡ 0 = rw (lt-leb (moment_of r) y l, none_not_after y (moment_of r) rs (omega arith) h) in
+    let n : not_after (map time_of (r ∷ rs)) y ≡ 0 = rw (lt-leb (moment_of r) y l, none_not_after y (moment_of r) rs (omega arith) h) in
     behind_in r rs y l ∙ ap (λ t. r ∷ t) (behind_all y (moment_of r) rs (omega arith) h) ∙ ap (λ k. drop k (r ∷ rs)) (sym n))
     (λ (l : moment_of r ≤ y).
-    let n : not_after_lem (map time_of (r ∷ rs)) y ≡ suc (not_after_lem (map time_of rs) y) = rw (le-leb (moment_of r) y l) (omega arith) in
+    let n : not_after (map time_of (r ∷ rs)) y ≡ suc (not_after (map time_of rs) y) = rw (le-leb (moment_of r) y l) (omega arith) in
     behind_out r rs y l ∙ behind_drop y rs (later_ascends (moment_of r) rs h) ∙ ap (λ k. drop k (r ∷ rs)) (sym n))
     (cases_lt y (moment_of r))
 
@@ -78,7 +78,7 @@ pub record Placed (k : Edit) (x y i j : ℕ) (block rows : List Row) : Type 0 wh
   pub size : length (change_of k x y block rows).rows ≡ i + length block + (length rows - j)
   pub out : length (change_of k x y block rows).out ≡ j - i
 
-pub placed : (k : Edit) (x y i j : ℕ) (block rows : List Row) → x ≤ y → ascends rows ≡ true → i ≡ earlier (map time_of rows) x → j ≡ not_after_lem (map time_of rows) y → Placed k x y i j block rows
+pub placed : (k : Edit) (x y i j : ℕ) (block rows : List Row) → x ≤ y → ascends rows ≡ true → i ≡ earlier (map time_of rows) x → j ≡ not_after (map time_of rows) y → Placed k x y i j block rows
 placed k x y i j block rows m h ei ej =
     let first = before x rows in
     let out = between x y rows in

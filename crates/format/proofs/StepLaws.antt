@@ -19,7 +19,7 @@ use Rattle.reading.specs.declared.part.RowPart.{RowPart}
 use Rattle.reading.specs.declared.part.RowPart.TheVariants as parts
 use Rattle.reading.specs.Order.{next_stage}
 use Rattle.reading.specs.Builds.{row_of, velocity_of}
-use Rattle.reading.specs.Scans.{row_count, is_full_at, room_refusal, row_refusal_after, row_refusal, with_row, on_ok, taken, taken_if, at_stage, with_stage, content_step, by_stage, by_record, line_step_lem}
+use Rattle.reading.specs.Scans.{row_count, is_full_at, room_refusal, row_refusal_after, row_refusal, with_row, on_ok, taken, taken_if, at_stage, with_stage, content_step, by_stage, by_record, line_step}
 use Rattle.reading.specs.Ends.{end_refusal}
 use Rattle.reading.specs.Texts.{scan_end_by, on_scan, scan_lines}
 use Rattle.reading.specs.Stores.{with_part, position_part, velocity_part, part_by_record, part_by_type, part_of, rows_with, rows_on}
@@ -149,7 +149,7 @@ step_type : (n : ℕ) (l : List ℕ) (s u : Scan) (o : Option Record) → record
 step_type n l s u None i q = never (cc)
 step_type n l s u (Some t) i q = step_place n l s u t (next_stage s.part s.stage t) i refl q
 
-step_sound : (n : ℕ) (l : List ℕ) (s u : Scan) → line_step_lem n l s ≡ Ok u → StepOf n l s u
+step_sound : (n : ℕ) (l : List ℕ) (s u : Scan) → line_step n l s ≡ Ok u → StepOf n l s u
 step_sound n l s u q = step_type n l s u (record_of l) refl q
 
 -- the content of an entry, and what it says of the rows, as its line has them
@@ -161,7 +161,7 @@ content_of n l s v t vs r q = ⊎_elim
     (λ h. (rw h.0 (ap (taken_if n s t) (h.1 n) ∙ taken_any 0 n s v t vs q), part_is n (drop 2 l) t vs (h.1 n)))
     r.found
 
-step_complete : (n : ℕ) (l : List ℕ) (s u : Scan) (e : Entry) → IsRecord e.type l e.values → Follows s u e → (line_step_lem n l s ≡ Ok u) × (part_of n l ≡ part_by e.type e.values)
+step_complete : (n : ℕ) (l : List ℕ) (s u : Scan) (e : Entry) → IsRecord e.type l e.values → Follows s u e → (line_step n l s ≡ Ok u) × (part_of n l ≡ part_by e.type e.values)
 step_complete n l s u e i f =
     let r = record_complete e.type l e.values i in
     let c = content_of n l s f.next e.type e.values r f.content in (
@@ -193,7 +193,7 @@ end_at n s u (Ok x) h q =
     let w : s ≡ u = cc in
     record { ending = refl; entries = []; are = tt; scanned = w; last = n; end = subst (λ z. end_refusal z n ≡ Ok tt) w h; rows = λ rows. refl }
 
-lines_on : (n : ℕ) (l : List ℕ) (ls : List (List ℕ)) (how : Ending) (s u : Scan) (r : Result Scan Refusal) → line_step_lem (n + 1) l s ≡ r
+lines_on : (n : ℕ) (l : List ℕ) (ls : List (List ℕ)) (how : Ending) (s u : Scan) (r : Result Scan Refusal) → line_step (n + 1) l s ≡ r
     → ((v : Scan) → scan_lines (n + 1) ls how v ≡ Ok u → LinesOf (n + 1) ls how v u) → on_scan r (λ t. scan_lines (n + 1) ls how t) ≡ Ok u → LinesOf n (l ∷ ls) how s u
 lines_on n l ls how s u (Err e) h next q = never (cc)
 lines_on n l ls how s u (Ok v) h next q =
@@ -213,7 +213,7 @@ pub lines_sound : (n : ℕ) (ls : List (List ℕ)) (how : Ending) (s u : Scan) �
 lines_sound n [] at_line s u q = end_at n s u (end_refusal s n) refl q
 lines_sound n [] forbidden s u q = never (cc)
 lines_sound n [] too_long s u q = never (cc)
-lines_sound n (l ∷ ls) how s u q = lines_on n l ls how s u (line_step_lem (n + 1) l s) refl (λ v p. lines_sound (n + 1) ls how v u p) q
+lines_sound n (l ∷ ls) how s u q = lines_on n l ls how s u (line_step (n + 1) l s) refl (λ v p. lines_sound (n + 1) ls how v u p) q
 
 pub lines_complete : (n : ℕ) (ls : List (List ℕ)) (es : List Entry) (s u : Scan) → AreRecords ls es → Scanned es s u → ((k : ℕ) → end_refusal u k ≡ Ok tt) → scan_lines n ls at_line s ≡ Ok u
 lines_complete n [] [] s u a c end = ap (λ z. scan_end_by z n None) c ∙ ap (λ z. on_ok z u) (end n)

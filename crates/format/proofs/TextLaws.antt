@@ -2,7 +2,7 @@
 use Rattle.std.proofs.Common.{◌≡◌, ℕ, ◌≤◌, eqb, ltb, leb, List, [], ◌∷◌, ◌++◌, length, sym, refl, ap, ◌∙◌, subst, append_assoc, append-nil, arith}
 use Rattle.std.specs.List.{AllByRecursion as All}
 use Rattle.std.proofs.lemmas.Bool.{cond_both, eqb-true, leb-true, le-leb, ltb-false, ne_eqb, le-ltb}
-use Rattle.lines.specs.Texts.{at_line, Text, on_line_lem, text_on, text_of}
+use Rattle.lines.specs.Texts.{at_line, Text, on_line, text_on, text_of}
 use Rattle.format.specs.Format.{unlines, Printable, IsLine, IsText}
 use Rattle.format.proofs.Common.{never}
 
@@ -27,20 +27,20 @@ text_from line (b ∷ bs) p e =
 pub text_sound : (bs : List ℕ) → (text_of bs).ending ≡ at_line → IsText bs (text_of bs).lines
 text_sound bs e = let q = text_from [] bs tt e in record { bytes = q.0; lines = q.1 }
 
-line_to : (line l bs : List ℕ) → All Printable l → length (line ++ l) ≤ 128 → text_on line (l ++ (10 ∷ bs)) ≡ on_line_lem (line ++ l) (text_of bs)
+line_to : (line l bs : List ℕ) → All Printable l → length (line ++ l) ≤ 128 → text_on line (l ++ (10 ∷ bs)) ≡ on_line (line ++ l) (text_of bs)
 line_to line [] bs p h =
     let k : length line ≤ 128 = subst (λ z. length z ≤ 128) (append-nil line) h in
-    rw (le-leb (length line) 128 k) (ap (λ z. on_line_lem z (text_of bs)) (sym (append-nil line)))
+    rw (le-leb (length line) 128 k) (ap (λ z. on_line z (text_of bs)) (sym (append-nil line)))
 line_to line (b ∷ l) bs p h =
     let low = le-ltb b 32 p.0.0 in
     let high = le-ltb 126 b p.0.1 in
     let no = ne_eqb b 10 (λ e. omega (arith, p.0.0, e)) in
     let a = append_assoc line (b ∷ []) l in
-    rw (no, low, high) (line_to (line ++ (b ∷ [])) l bs p.1 (subst (λ z. length z ≤ 128) (sym a) h) ∙ ap (λ z. on_line_lem z (text_of bs)) a)
+    rw (no, low, high) (line_to (line ++ (b ∷ [])) l bs p.1 (subst (λ z. length z ≤ 128) (sym a) h) ∙ ap (λ z. on_line z (text_of bs)) a)
 
 text_to : (ls : List (List ℕ)) → All IsLine ls → text_of (unlines ls) ≡ record { lines = ls; ending = at_line }
 text_to [] p = refl
-text_to (l ∷ ls) p = line_to [] l (unlines ls) p.0.printable p.0.short ∙ ap (on_line_lem l) (text_to ls p.1)
+text_to (l ∷ ls) p = line_to [] l (unlines ls) p.0.printable p.0.short ∙ ap (on_line l) (text_to ls p.1)
 
 pub text_complete : (bs : List ℕ) (ls : List (List ℕ)) → IsText bs ls → text_of bs ≡ record { lines = ls; ending = at_line }
 text_complete bs ls t = ap text_of t.bytes ∙ text_to ls t.lines

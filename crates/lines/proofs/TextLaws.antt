@@ -5,7 +5,7 @@ use Rattle.refusal.specs.declared.Refusal.{Refusal}
 use Rattle.lines.specs.declared.scan.LineEnd.{LineEnd}
 use Rattle.lines.specs.declared.scan.LineEnd.TheVariants as ends
 use Rattle.lines.specs.Lines.{ended, line_end, Inside, Answer, lists, line_by, next_line, bytes_taken, lines_taken}
-use Rattle.lines.specs.Texts.{Ending, at_line, forbidden, too_long, Text, on_line_lem, ends_by, ends_after, text_on, text_of, ending_refusal}
+use Rattle.lines.specs.Texts.{Ending, at_line, forbidden, too_long, Text, on_line, ends_by, ends_after, text_on, text_of, ending_refusal}
 
 abbrev AtLeast : ℕ → LineEnd → Type 0
 AtLeast k (ends.After m) = k ≤ m
@@ -33,7 +33,7 @@ within k (b ∷ bs) =
 
 -- what the bytes bs come to after those of the line, which ends as e says
 abbrev rest : List ℕ → LineEnd → List ℕ → Text
-rest line (ends.After m) bs = on_line_lem (line ++ take (m - length line) bs) (text_of (drop (m - length line + 1) bs))
+rest line (ends.After m) bs = on_line (line ++ take (m - length line) bs) (text_of (drop (m - length line + 1) bs))
 rest line ends.Forbidden bs = ends_by forbidden
 rest line ends.TooLong bs = ends_by too_long
 
@@ -41,19 +41,19 @@ shift : (line : List ℕ) (b : ℕ) (bs : List ℕ) (e : LineEnd) → AtLeast (l
 shift line b bs (ends.After m) h =
     let p : m - length line ≡ suc (m - (length line + 1)) = omega arith in
     let q : m - length line + 1 ≡ suc (m - (length line + 1) + 1) = omega arith in
-    rw (q, p, length_push line b) (ap (λ l. on_line_lem l (text_of (drop (m - (length line + 1) + 1) bs))) (append_assoc line (b ∷ []) (take (m - (length line + 1)) bs)))
+    rw (q, p, length_push line b) (ap (λ l. on_line l (text_of (drop (m - (length line + 1) + 1) bs))) (append_assoc line (b ∷ []) (take (m - (length line + 1)) bs)))
 shift line b bs ends.Forbidden h = refl
 shift line b bs ends.TooLong h = refl
 
 by_bool : {P : Type 0} (b : Bool) → (b ≡ true → P) → (b ≡ false → P) → P
 by_bool b f g = ⊎_elim f g (cases_Bool b)
 
-at_end : (line : List ℕ) (b : ℕ) (bs : List ℕ) → on_line_lem line (text_of bs) ≡ rest line (ends.After (length line)) (b ∷ bs)
+at_end : (line : List ℕ) (b : ℕ) (bs : List ℕ) → on_line line (text_of bs) ≡ rest line (ends.After (length line)) (b ∷ bs)
 at_end line b bs =
     let z : length line - length line ≡ 0 = omega arith in
     let e : line ≡ line ++ take (length line - length line) (b ∷ bs) = rw z (sym (append-nil line)) in
     let f : bs ≡ drop (length line - length line + 1) (b ∷ bs) = rw z in
-    λ i. on_line_lem (e i) (text_of (f i))
+    λ i. on_line (e i) (text_of (f i))
 
 text_rest : (line bs : List ℕ) → 0 < length line + length bs → text_on line bs ≡ rest line (line_end (length line) bs) bs
 text_rest [] [] h = absurd (omega arith)
@@ -74,17 +74,17 @@ inside b bs = let z : 0 + suc (length bs) ≡ suc (length bs) = omega arith in s
 never : {P : Type 0} → ◌≡◌ {A = ℕ} 0 1 → P
 never z = absurd (omega arith)
 
-some_rest : (n : ℕ) (bs l : List ℕ) (e : LineEnd) → Inside e (length bs) → line_by n bs e ≡ Ok (Some l) → rest [] e bs ≡ on_line_lem l (text_of (drop (length l + 1) bs))
+some_rest : (n : ℕ) (bs l : List ℕ) (e : LineEnd) → Inside e (length bs) → line_by n bs e ≡ Ok (Some l) → rest [] e bs ≡ on_line l (text_of (drop (length l + 1) bs))
 some_rest n bs l (ends.After m) h p =
     let z : m - 0 ≡ m = omega arith in
     let t : take m bs ≡ l = cc in
     let k : m ≡ length l = sym (length-take-le m bs (omega arith)) ∙ ap length t in
-    rw z (λ i. on_line_lem (t i) (text_of (drop (k i + 1) bs)))
+    rw z (λ i. on_line (t i) (text_of (drop (k i + 1) bs)))
 some_rest n bs l ends.Forbidden h p = never (cc)
 some_rest n bs l ends.TooLong h p = never (cc)
 
 -- a text by what the reader answers for its first line
-pub some_line : (n : ℕ) (bs l : List ℕ) → next_line n bs ≡ Ok (Some l) → text_of bs ≡ on_line_lem l (text_of (drop (length l + 1) bs))
+pub some_line : (n : ℕ) (bs l : List ℕ) → next_line n bs ≡ Ok (Some l) → text_of bs ≡ on_line l (text_of (drop (length l + 1) bs))
 some_line n [] l p = never (cc)
 some_line n (b ∷ bs) l p = text_is b bs ∙ some_rest n (b ∷ bs) l (line_end 0 (b ∷ bs)) (inside b bs) p
 
@@ -114,10 +114,10 @@ bad_line n (b ∷ bs) r p = let q = bad_rest n (b ∷ bs) r (line_end 0 (b ∷ b
 
 -- the same by an answer with references in place of the bytes
 pub by_answer : (n at to : ℕ) (xs : List ℕ) (o : Option (Bor (List ℕ))) → lists (Ok o) ≡ next_line n (drop at xs) → to ≡ at + bytes_taken (lists (Ok o))
-    → MatchOption o ((text_of (drop at xs)).lines ≡ []) (λ l. text_of (drop at xs) ≡ on_line_lem l.now (text_of (drop to xs)))
+    → MatchOption o ((text_of (drop at xs)).lines ≡ []) (λ l. text_of (drop at xs) ≡ on_line l.now (text_of (drop to xs)))
 by_answer n at to xs None p e = ap (λ t. t.lines) (no_line n (drop at xs) (sym p))
 by_answer n at to xs (Some l) p e =
-    some_line n (drop at xs) l.now (sym p) ∙ ap (λ b. on_line_lem l.now (text_of b)) (drop-drop (length l.now + 1) at xs ∙ ap (λ k. drop k xs) (sym e))
+    some_line n (drop at xs) l.now (sym p) ∙ ap (λ b. on_line l.now (text_of b)) (drop-drop (length l.now + 1) at xs ∙ ap (λ k. drop k xs) (sym e))
 
 pub counts_answer : (m n : ℕ) (o : Option (Bor (List ℕ))) → m ≡ n + lines_taken (lists (Ok o)) → MatchOption o (0 ≤ 0) (λ _. m ≡ n + 1)
 counts_answer m n None e = omega arith

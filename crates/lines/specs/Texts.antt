@@ -13,8 +13,8 @@ pub record Text : Type 0 where
   pub lines : List (List ℕ)
   pub ending : Ending
 
-abbrev pub on_line_lem : List ℕ → Text → Text
-on_line_lem l t = record { lines = l ∷ t.lines; ending = t.ending }
+abbrev pub on_line : List ℕ → Text → Text
+on_line l t = record { lines = l ∷ t.lines; ending = t.ending }
 
 abbrev pub ends_by : Ending → Text
 ends_by e = record { lines = []; ending = e }
@@ -27,7 +27,7 @@ ends_after (b ∷ bs) = ends_by forbidden
 abbrev pub text_on : List ℕ → List ℕ → Text
 text_on line [] = ends_after line
 text_on line (b ∷ bs) =
-    cond (b == 10) (cond (nat_le (length line) 128) (on_line_lem line (text_on [] bs)) (ends_by too_long))
+    cond (b == 10) (cond (nat_le (length line) 128) (on_line line (text_on [] bs)) (ends_by too_long))
     (cond (nat_lt b 32) (ends_by forbidden) (cond (nat_lt 126 b) (ends_by forbidden) (text_on (line ++ (b ∷ [])) bs)))
 
 abbrev pub text_of : List ℕ → Text

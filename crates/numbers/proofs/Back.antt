@@ -8,7 +8,7 @@ use Rattle.std.proofs.lemmas.Int.{ints}
 use Rattle.numbers.specs.Shapes.{Digit}
 use Rattle.numbers.specs.Values.{digits_after, digits_value, signed_value}
 use Rattle.numbers.specs.Parts.{SignText, Parts, IsWhole, IsDecimal}
-use Rattle.numbers.specs.Texts.{last_digits, fraction_text, unsigned_text, text_of, two_digits_lem}
+use Rattle.numbers.specs.Texts.{last_digits, fraction_text, unsigned_text, text_of, two_digits}
 use Rattle.numbers.specs.Back.{DecimalsReadBack, WholesReadBack, TwoDigitsReadBack}
 use Rattle.numbers.proofs.Digits.{own}
 use Rattle.numbers.proofs.Exact.{whole_exact, decimal_exact}
@@ -91,5 +91,5 @@ two n h =
     }
 
 pub two_back : TwoDigitsReadBack
-two_back (pos n) low high = whole_exact.1 (two_digits_lem (pos n)) (pos n) (two n (abs_le (pos n) 99 low high))
+two_back (pos n) low high = whole_exact.1 (two_digits (pos n)) (pos n) (two n (abs_le (pos n) 99 low high))
 two_back (negsuc n) low high = absurd (omega (arith, ints))

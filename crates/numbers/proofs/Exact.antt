@@ -1,7 +1,7 @@
 -- A word is read just where it is a number, and then as that number.
 use Rattle.std.proofs.Common.{◌≡◌, ℕ, ◌+◌, ◌-◌, ◌*◌, ◌^◌, List, [], ◌∷◌, length, ℤ, Some, None, sym, refl, ap, ◌∙◌, subst, inl, inr, zero-mul, arith}
 use Rattle.std.proofs.lemmas.Bool.{leb-true, le-leb, cond-true}
-use Rattle.numbers.specs.Shapes.{Shape, whole_word_lem, decimal_word, text_word, word_of}
+use Rattle.numbers.specs.Shapes.{Shape, whole_word, decimal_word, text_word, word_of}
 use Rattle.numbers.specs.Values.{digits_value, signed_value, takes_fraction, fraction_units, whole_in, number_of, decimal_of}
 use Rattle.numbers.specs.Parts.{Parts, IsWhole, IsDecimal, WholeWordsExact, DecimalWordsExact}
 use Rattle.numbers.proofs.Taken.{by_bool, Holds, word_holds, parts_whole, parts_decimal}
@@ -13,7 +13,7 @@ same_value : (x v : ℤ) → Some x ≡ Some v → v ≡ x
 same_value x v e = cc
 
 whole_from : (w : List ℕ) (v : ℤ) (s : Shape) → Holds w s → whole_in s ≡ Some v → IsWhole w v
-whole_from w v (whole_word_lem negative front) h e = record { negative = negative; front = front; parts = h; value = same_value _ v e }
+whole_from w v (whole_word negative front) h e = record { negative = negative; front = front; parts = h; value = same_value _ v e }
 whole_from w v (decimal_word negative front back) h e = no_value v e
 whole_from w v (text_word t) h e = no_value v e
 
@@ -21,7 +21,7 @@ no_fraction : (n d : ℕ) → n + 0 * 10 ^ (d - 0) ≡ n
 no_fraction n d = rw zero-mul (omega arith)
 
 decimal_from : (w : List ℕ) (d : ℕ) (v : ℤ) (s : Shape) → Holds w s → number_of s d ≡ Some v → IsDecimal w d v
-decimal_from w d v (whole_word_lem negative front) h e =
+decimal_from w d v (whole_word negative front) h e =
     record {
       negative = negative;
       front = front;

@@ -6,7 +6,7 @@ use Rattle.std.proofs.ByRecursion.{All-append, All-weaker}
 use Rattle.std.proofs.lemmas.List.{length-append, length-replicate}
 use Rattle.std.proofs.lemmas.Int.{ints}
 use Rattle.numbers.specs.Shapes.{Digit}
-use Rattle.numbers.specs.Texts.{last_digits, fraction_text, unsigned_text, text_of, right_text, two_digits_lem}
+use Rattle.numbers.specs.Texts.{last_digits, fraction_text, unsigned_text, text_of, right_text, two_digits}
 use Rattle.numbers.specs.Back.{Printable, OneWord, TextsAreWords}
 use Rattle.numbers.proofs.Back.{digits_last, whole_below}
 use Rattle.numbers.proofs.Digits.{own}
@@ -28,8 +28,8 @@ pub text_word_lem : (v : ℤ) (d : ℕ) → nat_abs v < 2 ^ 64 → OneWord (text
 text_word_lem (pos n) d h = (printable_unsigned n d h, unsigned_some n d h)
 text_word_lem (negsuc n) d h = (((omega arith, omega arith), printable_unsigned (suc n) d h), omega arith)
 
-pub two_digits_word : (v : ℤ) → OneWord (two_digits_lem v)
-two_digits_word v = (printable_digits (two_digits_lem v) (digits_last 2 (nat_abs v)), omega arith)
+pub two_digits_word : (v : ℤ) → OneWord (two_digits v)
+two_digits_word v = (printable_digits (two_digits v) (digits_last 2 (nat_abs v)), omega arith)
 
 pub texts_are_words : TextsAreWords
 texts_are_words = (text_word_lem, two_digits_word)
@@ -56,7 +56,7 @@ pub whole_text_le : (v : ℤ) (k : ℕ) → 1 ≤ k → nat_abs v < 2 ^ 64 → n
 whole_text_le (pos n) k some h small = let e : k ≡ k + 0 = omega arith in omega (arith, unsigned_le n 0 k some h (rw e at small))
 whole_text_le (negsuc n) k some h small = let e : k ≡ k + 0 = omega arith in omega (arith, unsigned_le (suc n) 0 k some h (rw e at small))
 
-pub length_two_digits : (v : ℤ) → length (two_digits_lem v) ≡ 2
+pub length_two_digits : (v : ℤ) → length (two_digits v) ≡ 2
 length_two_digits v = length_last 2 (nat_abs v)
 
 pub length_right_text : (v : ℤ) (d width : ℕ) → length (text_of v d) ≤ width → length (right_text v d width) ≡ width

@@ -4,7 +4,7 @@ use native.Mathlib.Nat.{div-div-eq-div-mul, pow-succ'}
 use Rattle.std.proofs.lemmas.Fmt.{decimal_step, decimal_digit, decimal_nonempty}
 use Rattle.std.proofs.lemmas.List.{drop-set, drop_more, set_at, replicate_more, length-append, length_push, length-replicate}
 use Rattle.std.proofs.lemmas.Int.{ints}
-use Rattle.numbers.specs.Texts.{last_digits, unsigned_text, text_of, two_digits_lem}
+use Rattle.numbers.specs.Texts.{last_digits, unsigned_text, text_of, two_digits}
 use Rattle.numbers.proofs.Lengths.{length_unsigned, length_fraction, whole_le}
 
 -- one byte written before what stands from p on
@@ -94,5 +94,5 @@ pub abs_le : (v : ℤ) (k : ℕ) → pos 0 ≤ℤ v → v ≤ℤ pos k → nat_a
 abs_le (pos n) k h le = omega (arith, ints)
 abs_le (negsuc n) k h le = absurd (omega (arith, ints))
 
-pub two_digits_lem : (xs : List ℕ) (v : ℤ) (n : ℕ) → length xs ≡ 2 → n ≡ nat_abs v → set (set xs 0 (48 + n / 10 % 10)) 1 (48 + n % 10) ≡ two_digits_lem v
+pub two_digits_lem : (xs : List ℕ) (v : ℤ) (n : ℕ) → length xs ≡ 2 → n ≡ nat_abs v → set (set xs 0 (48 + n / 10 % 10)) 1 (48 + n % 10) ≡ two_digits v
 two_digits_lem xs v n two e = two_set xs (48 + n / 10 % 10) (48 + n % 10) two ∙ rw e

@@ -3,7 +3,7 @@ use Rattle.std.proofs.Common.{◌≡◌, ℕ, suc, ◌+◌, ◌≤◌, Bool, tru
 use Rattle.std.specs.List.{AllByRecursion as All}
 use Rattle.std.proofs.lemmas.List.{take-append-drop, take_at, drop_at, length-take-le}
 use Rattle.std.proofs.lemmas.Bool.{eq-eqb, ne_eqb, eqb-true, le-leb, leb-true, and_parts, and_from, cond_both}
-use Rattle.numbers.specs.Shapes.{is_digit, Digit, digit_run, has_minus, without_sign, Shape, whole_word_lem, decimal_word, text_word, by_rest, word_of}
+use Rattle.numbers.specs.Shapes.{is_digit, Digit, digit_run, has_minus, without_sign, Shape, whole_word, decimal_word, text_word, by_rest, word_of}
 use Rattle.numbers.specs.Parts.{SignText, Parts}
 use Rattle.numbers.proofs.Words.{split}
 
@@ -56,7 +56,7 @@ sign_split (b ∷ bs) =
 
 -- what a word's form says of the word
 abbrev pub Holds : List ℕ → Shape → Type 0
-Holds w (whole_word_lem negative front) = Parts w negative front []
+Holds w (whole_word negative front) = Parts w negative front []
 Holds w (decimal_word negative front back) = Parts w negative front (46 ∷ back) × All Digit back
 Holds w (text_word t) = t ≡ w
 
@@ -111,13 +111,13 @@ parts_word w negative front rest p stop =
     p.some
     p.few
 
-pub parts_whole : (w : List ℕ) (negative : Bool) (front : List ℕ) → Parts w negative front [] → whole_word_lem negative front ≡ word_of w
+pub parts_whole : (w : List ℕ) (negative : Bool) (front : List ℕ) → Parts w negative front [] → whole_word negative front ≡ word_of w
 parts_whole w negative front p = parts_word w negative front [] p refl
 
 pub parts_decimal : (w : List ℕ) (negative : Bool) (front back : List ℕ) → Parts w negative front (46 ∷ back) → All Digit back → decimal_word negative front back ≡ word_of w
 parts_decimal w negative front back p h = sym (rw (eq-eqb (digit_run back) (length back) (run_all_digits back h))) ∙ parts_word w negative front (46 ∷ back) p refl
 
-pub whole_parts : (w : List ℕ) (negative : Bool) (front : List ℕ) → whole_word_lem negative front ≡ word_of w → Parts w negative front []
+pub whole_parts : (w : List ℕ) (negative : Bool) (front : List ℕ) → whole_word negative front ≡ word_of w → Parts w negative front []
 whole_parts w negative front e = let P : Shape → Type 0 = Holds w in subst P (sym e) (word_holds w)
 
 pub decimal_parts : (w : List ℕ) (negative : Bool) (front back : List ℕ) → decimal_word negative front back ≡ word_of w → Parts w negative front (46 ∷ back) × All Digit back

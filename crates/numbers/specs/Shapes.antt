@@ -26,13 +26,13 @@ without_sign (b ∷ bs) = cond (b == 43 || b == 45) bs (b ∷ bs)
 
 -- whether it is negative, the digits before the point, and those after it
 pub data Shape : Type 0 where
-  whole_word_lem : Bool → List ℕ → Shape
+  whole_word : Bool → List ℕ → Shape
   decimal_word : Bool → List ℕ → List ℕ → Shape
   text_word : List ℕ → Shape
 
 -- the word w, by what follows its sign and its first digits
 abbrev pub by_rest : List ℕ → Bool → List ℕ → List ℕ → Shape
-by_rest w negative front [] = whole_word_lem negative front
+by_rest w negative front [] = whole_word negative front
 by_rest w negative front (b ∷ back) = cond (b == 46 && digit_run back == length back) (decimal_word negative front back) (text_word w)
 
 -- the word w, by what follows its sign and the number of digits that this begins with

@@ -24,5 +24,5 @@ abbrev pub right_text : ℤ → ℕ → ℕ → List ℕ
 right_text v d width = replicate (width - length (text_of v d)) 32 ++ text_of v d
 
 -- with a leading zero
-abbrev pub two_digits_lem : ℤ → List ℕ
-two_digits_lem v = last_digits 2 (unsigned_abs v)
+abbrev pub two_digits : ℤ → List ℕ
+two_digits v = last_digits 2 (unsigned_abs v)

@@ -1,6 +1,6 @@
 -- The values of words, in units of their last place.
 use Rattle.std.specs.Prelude.{ℕ, ◌+◌, ◌-◌, ◌*◌, ◌^◌, Bool, cond, List, [], ◌∷◌, length, ℤ, pos, neg_ℤ, Some, None, Option, nat_le}
-use Rattle.numbers.specs.Shapes.{Shape, whole_word_lem, decimal_word, text_word, word_of}
+use Rattle.numbers.specs.Shapes.{Shape, whole_word, decimal_word, text_word, word_of}
 
 -- what digits write after the number n
 abbrev pub digits_after : ℕ → List ℕ → ℕ
@@ -22,13 +22,13 @@ abbrev pub fraction_units : List ℕ → ℕ → ℕ
 fraction_units back d = digits_value back * 10 ^ (d - length back)
 
 abbrev pub whole_in : Shape → Option ℤ
-whole_in (whole_word_lem negative front) = Some (signed_value negative (digits_value front))
+whole_in (whole_word negative front) = Some (signed_value negative (digits_value front))
 whole_in (decimal_word negative front back) = None
 whole_in (text_word w) = None
 
 -- the value in a field of d places
 abbrev pub number_of : Shape → ℕ → Option ℤ
-number_of (whole_word_lem negative front) d = Some (signed_value negative (digits_value front * 10 ^ d))
+number_of (whole_word negative front) d = Some (signed_value negative (digits_value front * 10 ^ d))
 number_of (decimal_word negative front back) d = cond (takes_fraction back d) (Some (signed_value negative (digits_value front * 10 ^ d + fraction_units back d))) None
 number_of (text_word w) d = None
 

@@ -2,7 +2,7 @@ use Rattle.std.proofs.Common.{◌≡◌, ℕ, zero, suc, ◌+◌, ◌-◌, ◌<�
 use Rattle.std.proofs.lemmas.List.{length-append, length-take-le}
 use Rattle.model.specs.declared.Row.{Row}
 use Rattle.model.specs.declared.Vector.{Vector}
-use Rattle.lines.specs.Texts.{Text, on_line_lem}
+use Rattle.lines.specs.Texts.{Text, on_line}
 use Rattle.reading.specs.declared.part.RowPart.{RowPart}
 use Rattle.reading.specs.declared.part.RowPart.TheVariants as parts
 use Rattle.reading.specs.Stores.{with_velocity, completed, with_part, part_of, rows_with, rows_on}
@@ -41,7 +41,7 @@ room_for rs n r p e h k =
     omega (arith, length-append (take n rs) (r ∷ []), length-take-le n rs h)
 
 -- the text t comes after n lines with the rows rs; l is its first line, and u what follows
-module _ (t u : Text) (l : List ℕ) (n : ℕ) (rs : List Row) (is : t ≡ on_line_lem l u) where
+module _ (t u : Text) (l : List ℕ) (n : ℕ) (rs : List Row) (is : t ≡ on_line l u) where
   pub rows_more : (m number : ℕ) → m ≡ n + 1 → number ≡ m → rows_on m u.lines (with_part rs (part_of number l)) ≡ rows_on n t.lines rs
   rows_more m number e g = (λ i. rows_on (e i) u.lines (with_part rs (part_of ((g ∙ e) i) l))) ∙ sym (ap (λ v. rows_on n v.lines rs) is)
 

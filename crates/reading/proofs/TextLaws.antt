@@ -6,7 +6,7 @@ use Rattle.cells.specs.declared.summary.Summary.{Summary}
 use Rattle.cells.specs.Cells.{count_in, summary_with}
 use Rattle.std.proofs.lemmas.Bool.{le-ltb}
 use Rattle.lines.specs.Lines.{next_line, lists, lines_taken, bytes_taken}
-use Rattle.lines.specs.Texts.{at_line, Text, on_line_lem, ends_by, text_of, ending_refusal}
+use Rattle.lines.specs.Texts.{at_line, Text, on_line, ends_by, text_of, ending_refusal}
 use Rattle.lines.proofs.TextLaws.{some_line, no_line, bad_line}
 use Rattle.records.specs.declared.record.Record.{Record}
 use Rattle.records.specs.declared.record.Record.TheVariants as rec
@@ -18,7 +18,7 @@ use Rattle.reading.specs.declared.stage.Stage.{Stage}
 use Rattle.reading.specs.declared.stage.Part.{Part}
 use Rattle.reading.specs.Order.{next_stage}
 use Rattle.reading.specs.Builds.{row_of}
-use Rattle.reading.specs.Scans.{started, row_count, row_refusal, with_row, on_ok, taken, taken_if, at_stage, content_step, by_stage, by_record, line_step_lem}
+use Rattle.reading.specs.Scans.{started, row_count, row_refusal, with_row, on_ok, taken, taken_if, at_stage, content_step, by_stage, by_record, line_step}
 use Rattle.reading.specs.Ends.{end_refusal}
 use Rattle.reading.specs.Texts.{scan_end_by, on_scan, scan_lines, scan_from, scan_of}
 
@@ -68,20 +68,20 @@ count_record line text s u None p = never (cc)
 count_record line text s u (Some t) p = count_place line text s u t (next_stage s.part s.stage t) p
 
 -- a line adds at most one row
-pub count_step : (line : ℕ) (text : List ℕ) (s u : Scan) → line_step_lem line text s ≡ Ok u → row_count u ≤ row_count s + 1
+pub count_step : (line : ℕ) (text : List ℕ) (s u : Scan) → line_step line text s ≡ Ok u → row_count u ≤ row_count s + 1
 count_step line text s u p = count_record line text s u (record_of text) p
 
 -- the text xs is read up to at, and has n lines there
 module _ (xs : List ℕ) (n at : ℕ) (s : Scan) where
-  go_on : (l : List ℕ) → next_line (n + 1) (drop at xs) ≡ Ok (Some l) → scan_from n (text_of (drop at xs)) s ≡ on_scan (line_step_lem (n + 1) l s) (λ t. scan_from (n + 1) (text_of (drop (at + (length l + 1)) xs)) t)
+  go_on : (l : List ℕ) → next_line (n + 1) (drop at xs) ≡ Ok (Some l) → scan_from n (text_of (drop at xs)) s ≡ on_scan (line_step (n + 1) l s) (λ t. scan_from (n + 1) (text_of (drop (at + (length l + 1)) xs)) t)
   go_on l p =
       ap (λ t. scan_from n t s) (some_line (n + 1) (drop at xs) l p)
-      ∙ ap (λ b. on_scan (line_step_lem (n + 1) l s) (λ t. scan_from (n + 1) (text_of b) t)) (drop-drop (length l + 1) at xs)
+      ∙ ap (λ b. on_scan (line_step (n + 1) l s) (λ t. scan_from (n + 1) (text_of b) t)) (drop-drop (length l + 1) at xs)
 
-  pub one_line : (l : List ℕ) (u : Scan) → next_line (n + 1) (drop at xs) ≡ Ok (Some l) → line_step_lem (n + 1) l s ≡ Ok u → scan_from n (text_of (drop at xs)) s ≡ scan_from (n + 1) (text_of (drop (at + (length l + 1)) xs)) u
+  pub one_line : (l : List ℕ) (u : Scan) → next_line (n + 1) (drop at xs) ≡ Ok (Some l) → line_step (n + 1) l s ≡ Ok u → scan_from n (text_of (drop at xs)) s ≡ scan_from (n + 1) (text_of (drop (at + (length l + 1)) xs)) u
   one_line l u p q = go_on l p ∙ ap (λ r. on_scan r (λ t. scan_from (n + 1) (text_of (drop (at + (length l + 1)) xs)) t)) q
 
-  pub bad_step : (l : List ℕ) (e : Refusal) → next_line (n + 1) (drop at xs) ≡ Ok (Some l) → line_step_lem (n + 1) l s ≡ Err e → scan_from n (text_of (drop at xs)) s ≡ Err e
+  pub bad_step : (l : List ℕ) (e : Refusal) → next_line (n + 1) (drop at xs) ≡ Ok (Some l) → line_step (n + 1) l s ≡ Err e → scan_from n (text_of (drop at xs)) s ≡ Err e
   bad_step l e p q = go_on l p ∙ ap (λ r. on_scan r (λ t. scan_from (n + 1) (text_of (drop (at + (length l + 1)) xs)) t)) q
 
   pub at_last : next_line (n + 1) (drop at xs) ≡ Ok None → scan_from n (text_of (drop at xs)) s ≡ on_ok (end_refusal s n) s

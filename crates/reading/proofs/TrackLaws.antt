@@ -24,7 +24,7 @@ use Rattle.reading.specs.declared.part.RowPart.{RowPart}
 use Rattle.reading.specs.declared.part.RowPart.TheVariants as parts
 use Rattle.reading.specs.Order.{next_stage}
 use Rattle.reading.specs.Builds.{row_of}
-use Rattle.reading.specs.Scans.{started, row_count, is_full_at, room_refusal, row_refusal_after, row_refusal, with_row, on_ok, taken, taken_if, at_stage, with_stage, content_step, by_stage, by_record, line_step_lem}
+use Rattle.reading.specs.Scans.{started, row_count, is_full_at, room_refusal, row_refusal_after, row_refusal, with_row, on_ok, taken, taken_if, at_stage, with_stage, content_step, by_stage, by_record, line_step}
 use Rattle.reading.specs.Ends.{end_refusal}
 use Rattle.reading.specs.Texts.{scan_end_by, on_scan, scan_lines, scan_from, scan_of}
 use Rattle.reading.specs.Stores.{with_velocity, completed, with_part, position_part, velocity_part, part_by_record, part_by_type, part_of, rows_with, rows_on, rows_in}
@@ -110,7 +110,7 @@ record_step : (n : ℕ) (text : List ℕ) (s u : Scan) (o : Option Record) → b
 record_step n text s u None q = never (cc)
 record_step n text s u (Some t) q = place_step n text s u t (next_stage s.part s.stage t) q
 
-pub line_step_lem : (n : ℕ) (text : List ℕ) (s u : Scan) → line_step_lem n text s ≡ Ok u → Step n (part_of n text) s u
+pub line_step_lem : (n : ℕ) (text : List ℕ) (s u : Scan) → line_step n text s ≡ Ok u → Step n (part_of n text) s u
 line_step_lem n text s u q = record_step n text s u (record_of text) q
 
 -- the scan tells of the rows what their summary tells, and they fit its room
@@ -161,7 +161,7 @@ tracks_part n p s u rows given t (added r e f g k) h =
 same_length : (rows more : List Row) (k : ℕ) → length rows ≤ k → summary_if more ≡ summary_if rows → length more ≤ k
 same_length rows more k h e = let a = sym (count_summary more) ∙ ap count_in e ∙ count_summary rows in omega arith
 
-pub tracks_line : (n : ℕ) (text : List ℕ) (s u : Scan) (rows : List Row) (given : Option ℕ) → Tracks s rows given → line_step_lem n text s ≡ Ok u → Tracks u (rows_with n rows text) given
+pub tracks_line : (n : ℕ) (text : List ℕ) (s u : Scan) (rows : List Row) (given : Option ℕ) → Tracks s rows given → line_step n text s ≡ Ok u → Tracks u (rows_with n rows text) given
 tracks_line n text s u rows given t q = tracks_part n (part_of n text) s u rows given t (line_step_lem n text s u q) (λ k h e. same_length rows (with_part rows (part_of n text)) k h e)
 
 tracks_end : (s u : Scan) (n : ℕ) (o : Option Refusal) (rows : List Row) (given : Option ℕ) → Tracks s rows given → scan_end_by s n o ≡ Ok u → Tracks u rows given
@@ -178,7 +178,7 @@ tracks_on n l ls e rows given u (Err x) h q = never (cc)
 
 pub tracks_lines : (n : ℕ) (ls : List (List ℕ)) (e : Ending) (s u : Scan) (rows : List Row) (given : Option ℕ) → Tracks s rows given → scan_lines n ls e s ≡ Ok u → Tracks u (rows_on n ls rows) given
 tracks_lines n [] e s u rows given t q = tracks_end s u n (ending_refusal (n + 1) e) rows given t q
-tracks_lines n (l ∷ ls) e s u rows given t q = tracks_on n l ls e rows given u (line_step_lem (n + 1) l s) (λ v p r. tracks_lines (n + 1) ls e v u (rows_with (n + 1) rows l) given (tracks_line (n + 1) l s v rows given t p) r) q
+tracks_lines n (l ∷ ls) e s u rows given t q = tracks_on n l ls e rows given u (line_step (n + 1) l s) (λ v p r. tracks_lines (n + 1) ls e v u (rows_with (n + 1) rows l) given (tracks_line (n + 1) l s v rows given t p) r) q
 
 -- an accepted text: the scan tells of its rows
 pub tracks_text : (p : Part) (room : Option ℕ) (bs : List ℕ) (u : Scan) → scan_of p room bs ≡ Ok u → Tracks u (rows_in bs) room

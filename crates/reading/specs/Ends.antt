@@ -13,12 +13,12 @@ use Rattle.reading.specs.declared.stage.Part.{Part}
 use Rattle.reading.specs.declared.stage.Part.TheVariants as part
 use Rattle.reading.specs.Order.{rows_done}
 
-abbrev pub same_second_lem : DaySecond → DaySecond → Bool
-same_second_lem a b = a.day == b.day && a.second == b.second
+abbrev pub same_second : DaySecond → DaySecond → Bool
+same_second a b = a.day == b.day && a.second == b.second
 
 -- H2 states the start, the end and the interval of the rows
 abbrev pub span_agrees : Span → Cells → Bool
-span_agrees p c = same_second_lem p.start c.start && (same_second_lem p.end c.end && (int_le (pos 0) p.interval && unsigned_abs p.interval == c.interval))
+span_agrees p c = same_second p.start c.start && (same_second p.end c.end && (int_le (pos 0) p.interval && unsigned_abs p.interval == c.interval))
 
 abbrev pub is_end : Stage → Bool
 is_end at.Start = false

@@ -107,8 +107,8 @@ by_record line text s None = Err (UnknownRecord line)
 by_record line text s (Some t) = by_stage line text s t (next_stage s.part s.stage t)
 
 -- one line more: its type, its place, its words, and for a row the rules for rows
-abbrev pub line_step_lem : ℕ → List ℕ → Scan → Result Scan Refusal
-line_step_lem line text s = by_record line text s (record_of text)
+abbrev pub line_step : ℕ → List ℕ → Scan → Result Scan Refusal
+line_step line text s = by_record line text s (record_of text)
 
 -- what a step answers, and what it leaves
 abbrev pub Stepped : Result (Unit {0}) Refusal → Result Scan Refusal → Scan → Scan → Type 0

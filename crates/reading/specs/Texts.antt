@@ -4,7 +4,7 @@ use Rattle.refusal.specs.declared.Refusal.TheVariants.{TooLong}
 use Rattle.lines.specs.Texts.{Ending, Text, text_of, ending_refusal}
 use Rattle.reading.specs.declared.scan.Scan.{Scan}
 use Rattle.reading.specs.declared.stage.Part.{Part}
-use Rattle.reading.specs.Scans.{started, on_ok, line_step_lem}
+use Rattle.reading.specs.Scans.{started, on_ok, line_step}
 use Rattle.reading.specs.Ends.{end_refusal}
 
 -- where the text ends, after n lines
@@ -19,7 +19,7 @@ on_scan (Err e) go = Err e
 -- each line in turn, and then the end; n lines came before
 abbrev pub scan_lines : ℕ → List (List ℕ) → Ending → Scan → Result Scan Refusal
 scan_lines n [] e s = scan_end_by s n (ending_refusal (n + 1) e)
-scan_lines n (l ∷ ls) e s = on_scan (line_step_lem (n + 1) l s) (λ t. scan_lines (n + 1) ls e t)
+scan_lines n (l ∷ ls) e s = on_scan (line_step (n + 1) l s) (λ t. scan_lines (n + 1) ls e t)
 
 abbrev pub scan_from : ℕ → Text → Scan → Result Scan Refusal
 scan_from n t s = scan_lines n t.lines t.ending s

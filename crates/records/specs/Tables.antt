@@ -65,8 +65,8 @@ interval = field form.Whole 0 (pos 0) (pos 99999) Plain
 abbrev pub one_digit : Field
 one_digit = field form.Whole 0 (pos 0) (pos 9) Plain
 
-abbrev pub two_digits_lem : Field
-two_digits_lem = field form.Whole 0 (pos 0) (pos 99) Plain
+abbrev pub two_digits : Field
+two_digits = field form.Whole 0 (pos 0) (pos 99) Plain
 
 abbrev pub run_off : Field
 run_off = field form.Whole 0 (negsuc 9998) (pos 99999) Plain
@@ -96,7 +96,7 @@ abbrev pub h1 : List Field
 h1 = cpf ∷ version ∷ source ∷ year ∷ month ∷ day ∷ hour ∷ sequence ∷ sub_daily ∷ target ∷ notes ∷ []
 
 abbrev pub h2 : List Field
-h2 = ilrs_number ∷ sic ∷ norad_number ∷ year ∷ month ∷ day ∷ hour ∷ minute ∷ second ∷ year ∷ month ∷ day ∷ hour ∷ minute ∷ second ∷ interval ∷ one_digit ∷ one_digit ∷ two_digits_lem ∷ one_digit ∷ one_digit ∷ two_digits_lem ∷ []
+h2 = ilrs_number ∷ sic ∷ norad_number ∷ year ∷ month ∷ day ∷ hour ∷ minute ∷ second ∷ year ∷ month ∷ day ∷ hour ∷ minute ∷ second ∷ interval ∷ one_digit ∷ one_digit ∷ two_digits ∷ one_digit ∷ one_digit ∷ two_digits ∷ []
 
 abbrev pub h3 : List Field
 h3 = run_off ∷ run_off ∷ run_off ∷ run_off ∷ run_off ∷ run_off ∷ run_off ∷ run_off ∷ run_off ∷ []

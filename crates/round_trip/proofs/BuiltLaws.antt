@@ -82,10 +82,10 @@ module _ (vs : List Value) (g : GoodValues rec.H2 vs) where
         norad_number = number_inside table.norad_number (value_at vs 2) (at 2 (omega arith));
         tiv_compatible = number_inside table.one_digit (value_at vs 16) (at 16 (omega arith));
         target_class = number_inside table.one_digit (value_at vs 17) (at 17 (omega arith));
-        frame = number_inside table.two_digits_lem (value_at vs 18) (at 18 (omega arith));
+        frame = number_inside table.two_digits (value_at vs 18) (at 18 (omega arith));
         rotation = number_inside table.one_digit (value_at vs 19) (at 19 (omega arith));
         centre_of_mass = number_inside table.one_digit (value_at vs 20) (at 20 (omega arith));
-        location = number_inside table.two_digits_lem (value_at vs 21) (at 21 (omega arith));
+        location = number_inside table.two_digits (value_at vs 21) (at 21 (omega arith));
       }
 
 module _ (vs : List Value) (g : GoodValues rec.H3 vs) where

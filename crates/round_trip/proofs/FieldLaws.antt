@@ -8,7 +8,7 @@ use Rattle.std.proofs.lemmas.Bool.{and_parts, and_from, eqb-true, leb-true, or_c
 use Rattle.model.specs.declared.name.Name.{Name}
 use Rattle.model.specs.Names.{name_text, name_of}
 use Rattle.numbers.specs.Values.{whole_of, decimal_of}
-use Rattle.numbers.specs.Texts.{text_of, two_digits_lem}
+use Rattle.numbers.specs.Texts.{text_of, two_digits}
 use Rattle.numbers.specs.Back.{Printable, OneWord}
 use Rattle.numbers.proofs.Back.{decimals_back, wholes_back, two_back}
 use Rattle.numbers.proofs.Printed.{text_word_lem, two_digits_word, text_le_pos, text_le, whole_text_le_pos, whole_text_le, length_two_digits, length_right_text}
@@ -120,7 +120,7 @@ number_written TwoDigits f z fine lay h =
     let p = and_parts (le_z f.least z) (le_z z f.greatest) h in
     let q = and_parts (le_z (pos 0) f.least) (le_z f.greatest (pos 99)) lay in
     let b = two_bounds f.least f.greatest z q.0 q.1 p.0 p.1 in
-    record { spaces = 0; word = two_digits_lem z; text = refl; one = two_digits_word z; reads = inr (refl, two_back z b.0 b.1); fits = omega (arith, length_two_digits z) }
+    record { spaces = 0; word = two_digits z; text = refl; one = two_digits_word z; reads = inr (refl, two_back z b.0 b.1); fits = omega (arith, length_two_digits z) }
 number_written (Right width) f z fine lay h =
     let s = small f z fine h in
     let r = s.room in

@@ -21,7 +21,7 @@ use Rattle.reading.specs.declared.stage.Part.TheVariants as part
 use Rattle.reading.specs.Builds.{origin_of, satellite_of, span_of, accuracy_of, offset_of, row_of, velocity_of}
 use Rattle.reading.specs.Ends.{is_end, span_refusal, end_refusal_of, end_refusal}
 use Rattle.reading.specs.Order.{after_h1, after_h2, after_h3, after_h5, after_h9, after_position, after_velocity, after_comment, after_trailer, rows_done, next_stage}
-use Rattle.reading.specs.Scans.{started, room_refusal, row_refusal_after, row_refusal, with_row, with_header, with_stage, on_ok, taken, taken_if, at_stage, content_step, by_stage, by_record, line_step_lem}
+use Rattle.reading.specs.Scans.{started, room_refusal, row_refusal_after, row_refusal, with_row, with_header, with_stage, on_ok, taken, taken_if, at_stage, content_step, by_stage, by_record, line_step}
 use Rattle.reading.specs.Texts.{scan_end_by, on_scan, scan_lines, scan_from, scan_of}
 use Rattle.reading.specs.Stores.{completed, with_part, part_by_record, part_by_type, rows_with, rows_on, rows_in}
 use Rattle.round_trip.specs.Lines.{IsLine}
@@ -123,7 +123,7 @@ module _ (p : Part) (n : ℕ) (l : List ℕ) (s u : Scan) (rows : List Row) (goo
   record_held None h = never (cc)
   record_held (Some t) h = place_held t (next_stage s.part s.stage t) refl h
 
-  line_held : line_step_lem n l s ≡ Ok u → HeldBy p u (rows_with n rows l)
+  line_held : line_step n l s ≡ Ok u → HeldBy p u (rows_with n rows l)
   line_held h = record_held (record_of l) h
 
 -- what has ended well has ended in its place
@@ -162,7 +162,7 @@ on_held n l ls e u P (Err x) h q = never (cc)
 lines_held : (p : Part) (n : ℕ) (ls : List (List ℕ)) (e : Ending) (s u : Scan) (rows : List Row) → All IsLine ls → HeldBy p s rows → scan_lines n ls e s ≡ Ok u → Good p u (rows_on n ls rows)
 lines_held p n [] e s u rows a i h = end_held p s u n rows (ending_refusal (n + 1) e) i h
 lines_held p n (l ∷ ls) e s u rows a i h =
-    on_held n l ls e u (Good p u (rows_on n (l ∷ ls) rows)) (line_step_lem (n + 1) l s)
+    on_held n l ls e u (Good p u (rows_on n (l ∷ ls) rows)) (line_step (n + 1) l s)
     (λ v c q. lines_held p (n + 1) ls e v u (rows_with (n + 1) rows l) a.1 (line_held p (n + 1) l s v rows a.0 i c) q) h
 
 begun : (p : Part) (room : Option ℕ) → HeldBy p (started p room) []

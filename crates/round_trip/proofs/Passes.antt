@@ -18,7 +18,7 @@ use Rattle.reading.specs.declared.part.RowPart.{RowPart}
 use Rattle.reading.specs.declared.part.RowPart.TheVariants as parts
 use Rattle.reading.specs.Order.{next_stage}
 use Rattle.reading.specs.Builds.{row_of, velocity_of}
-use Rattle.reading.specs.Scans.{taken, taken_if, at_stage, with_stage, by_stage, by_record, line_step_lem}
+use Rattle.reading.specs.Scans.{taken, taken_if, at_stage, with_stage, by_stage, by_record, line_step}
 use Rattle.reading.specs.Texts.{on_scan, scan_lines}
 use Rattle.reading.specs.Stores.{with_part, position_part, velocity_part, part_by_record, part_by_type, rows_with, rows_on}
 use Rattle.writing.specs.Texts.{record_text}
@@ -111,7 +111,7 @@ module _ (t : Record) (vs : List Value) (g : GoodValues t vs) where
       let b = records_read_back t vs g in
       ap (λ o. with_part rows (part_by_type n (line_text t vs) o)) b.type ∙ ap (with_part rows) (part_is n (drop 2 (line_text t vs)) t vs (b.values n))
 
-  scan_line : (n : ℕ) (s : Scan) (st : Stage) → is_comment t ≡ false → next_stage s.part s.stage t ≡ Some st → line_step_lem n (line_text t vs) s ≡ at_stage st (taken n s t vs)
+  scan_line : (n : ℕ) (s : Scan) (st : Stage) → is_comment t ≡ false → next_stage s.part s.stage t ≡ Some st → line_step n (line_text t vs) s ≡ at_stage st (taken n s t vs)
   scan_line n s st c place =
       let b = records_read_back t vs g in
       let text = line_text t vs in

@@ -6,7 +6,7 @@ use Rattle.std.proofs.ByRecursion.{All-push, All-drop}
 use Rattle.std.proofs.lemmas.Bool.{and_parts, cases_lt, cond_both, eqb-true, eqb-false, leb-true, ltb-false, or_cases}
 use Rattle.refusal.specs.declared.Refusal.{Refusal}
 use Rattle.refusal.specs.declared.Refusal.TheVariants.{WordCount}
-use Rattle.lines.specs.Texts.{Text as FileText, on_line_lem, ends_by, forbidden, too_long, text_on, text_of}
+use Rattle.lines.specs.Texts.{Text as FileText, on_line, ends_by, forbidden, too_long, text_on, text_of}
 use Rattle.lines.specs.Words.{words, stops, on_first}
 use Rattle.model.specs.Names.{name_of}
 use Rattle.numbers.specs.Back.{Printable}
@@ -32,7 +32,7 @@ lines_on (c ∷ line) [] h = tt
 lines_on line (b ∷ bs) h =
     let P : FileText → Type 0 = λ t. All IsLine t.lines in
     cond_both (eqb b 10) _ _ P
-    (λ _. cond_both (leb (length line) 128) (on_line_lem line (text_on [] bs)) (ends_by too_long) P (λ e. (record { bytes = h; short = leb-true (length line) 128 e }, lines_on [] bs tt)) (λ _. tt))
+    (λ _. cond_both (leb (length line) 128) (on_line line (text_on [] bs)) (ends_by too_long) P (λ e. (record { bytes = h; short = leb-true (length line) 128 e }, lines_on [] bs tt)) (λ _. tt))
     (λ _. cond_both (ltb b 32) (ends_by forbidden) _ P (λ _. tt)
     (λ low. cond_both (ltb 126 b) (ends_by forbidden) (text_on (line ++ (b ∷ [])) bs) P (λ _. tt)
     (λ high. lines_on (line ++ (b ∷ [])) bs (All-push LineByte line b h (ltb-false b 32 low, ltb-false 126 b high)))))

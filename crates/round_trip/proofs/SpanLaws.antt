@@ -16,7 +16,7 @@ use Rattle.records.specs.declared.record.Record.TheVariants.{H2}
 use Rattle.records.specs.Fields.{in_bounds, date_number}
 use Rattle.records.specs.Tables as table
 use Rattle.reading.specs.Builds.{span_of, second_at}
-use Rattle.reading.specs.Ends.{same_second_lem, span_agrees}
+use Rattle.reading.specs.Ends.{same_second, span_agrees}
 use Rattle.writing.specs.Values.{whole, satellite_values}
 use Rattle.round_trip.specs.Goods.{GoodNumber, GoodValues}
 use Rattle.round_trip.specs.Contents.{GoodSatellite}
@@ -120,7 +120,7 @@ module _ (n : ℕ) (h : n < 86400) where
   time_back : date_number (whole (n / 3600)) * 3600 + date_number (whole (n / 60 % 60)) * 60 + date_number (whole (n % 60)) ≡ n
   time_back = omega (arith, date_number_lem (n / 3600) (omega arith), date_number_lem (n / 60 % 60) (omega arith), date_number_lem (n % 60) (omega arith))
 
-same_second_lem : (a b : DaySecond) → a.day ≡ b.day → a.second ≡ b.second → same_second_lem a b ≡ true
+same_second_lem : (a b : DaySecond) → a.day ≡ b.day → a.second ≡ b.second → same_second a b ≡ true
 same_second_lem a b d s = and_from _ _ (eq-eqb _ _ d) (eq-eqb _ _ s)
 
 -- H2 of good cells

@@ -26,10 +26,10 @@ pub record GoodSatellite (s : Satellite) : Type 0 where
   pub norad_number : Inside table.norad_number s.norad_number
   pub tiv_compatible : Inside table.one_digit s.tiv_compatible
   pub target_class : Inside table.one_digit s.target_class
-  pub frame : Inside table.two_digits_lem s.frame
+  pub frame : Inside table.two_digits s.frame
   pub rotation : Inside table.one_digit s.rotation
   pub centre_of_mass : Inside table.one_digit s.centre_of_mass
-  pub location : Inside table.two_digits_lem s.location
+  pub location : Inside table.two_digits s.location
 
 -- nine values, each good for H3
 pub record GoodAccuracy (a : Accuracy) : Type 0 where

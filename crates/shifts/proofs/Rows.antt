@@ -12,7 +12,7 @@ use Rattle.tables.specs.Ends.{EndsRead}
 use Rattle.tables.specs.Lines.{time_of, place, Ascending}
 use Rattle.tables.proofs.Places.{place_in, place_read, place_within, place_map, place_map_err}
 use Rattle.tables.proofs.Orders.{up_lt, up_le, same_length}
-use Rattle.shifts.specs.Shifts.{moved, stays, move_instant, move_row, move_row_if, read_stays_lem, move_read, move_read_if, all_stay, shift_rows}
+use Rattle.shifts.specs.Shifts.{moved, stays, move_instant, move_row, move_row_if, read_stays, move_read, move_read_if, all_stay, shift_rows}
 
 -- moments moved by the same shift keep their order
 pub moved_le : (s : ℤ) (a b : ℕ) → a ≤ b → moved s a ≤ moved s b
@@ -68,12 +68,12 @@ ends_stay s rs i read k p q =
     let hi = up_le rs k.up j (length rs - 1) d (omega arith) (omega arith) in
     stay_between s read.first.at (get_or rs j d).at read.last.at (omega arith) (omega arith) p q)
 
-pub read_stays_lem : (s : ℤ) (rs : List Row) (i : ℕ) (read : RowAndEnds) → EndsRead rs i read → read_stays_lem s read ≡ all_stay s rs
+pub read_stays_lem : (s : ℤ) (rs : List Row) (i : ℕ) (read : RowAndEnds) → EndsRead rs i read → read_stays s read ≡ all_stay s rs
 read_stays_lem s rs i read k =
     elim (cases_Bool (all_stay s rs)) [
       | inl a ↦ and_from (stays s read.row.at) (stays s read.first.at && stays s read.last.at) (stay_place s rs i read.row a k.row)
           (and_from (stays s read.first.at) (stays s read.last.at) (stay_place s rs 0 read.first a k.first) (stay_place s rs (length rs - 1) read.last a k.last)) ∙ sym a
-      | inr b ↦ elim (cases_Bool (read_stays_lem s read)) [
+      | inr b ↦ elim (cases_Bool (read_stays s read)) [
         | inl t ↦
             let p = and_parts (stays s read.first.at) (stays s read.last.at) (and_parts (stays s read.row.at) (stays s read.first.at && stays s read.last.at) t).1 in
             absurd (both_ways (all_stay s rs) b (ends_stay s rs i read k p.0 p.1))
@@ -157,7 +157,7 @@ row_moved s s' r x z e = cond_ok (stays s r.at) x (move_row s r) _ (e ∙ ap (λ
 pub row_out : (s s' : ℤ) (r : Row) (d : Refusal) → s' ≡ s → Err d ≡ move_row_if s' r → (stays s r.at ≡ false) × (d ≡ OutsideCalendar)
 row_out s s' r d z e = cond_err (stays s r.at) (move_row s r) d _ (e ∙ ap (λ (v : ℤ). move_row_if v r) z)
 
-pub read_out : (s : ℤ) (read : RowAndEnds) (d : Refusal) → read_stays_lem s read ≡ false → d ≡ OutsideCalendar → Err d ≡ move_read_if s read
+pub read_out : (s : ℤ) (read : RowAndEnds) (d : Refusal) → read_stays s read ≡ false → d ≡ OutsideCalendar → Err d ≡ move_read_if s read
 read_out s read d f e = rw (f, e)
 
 pub read_in : (s : ℤ) (read : RowAndEnds) (row first last : Row)
@@ -171,13 +171,13 @@ pub ok_stays : (s s' : ℤ) (rs : List Row) (i : ℕ) (read : RowAndEnds) (got :
     → got ≡ move_read_if s' read → ok ≡ is_ok got → ok ≡ all_stay s rs
 ok_stays s s' rs i read got ok z k e o =
     o ∙ ap is_ok (e ∙ ap (λ (v : ℤ). move_read_if v read) z)
-    ∙ elim (read_stays_lem s read) as (λ b. is_ok {E = Refusal} (cond b (Ok (move_read s read)) (Err OutsideCalendar)) ≡ b) [ true ↦ refl | false ↦ refl ]
+    ∙ elim (read_stays s read) as (λ b. is_ok {E = Refusal} (cond b (Ok (move_read s read)) (Err OutsideCalendar)) ≡ b) [ true ↦ refl | false ↦ refl ]
     ∙ read_stays_lem s rs i read k
 
 -- what a shifted table reads
 pub read_moved : (s s' : ℤ) (rs : List Row) (i : ℕ) (read got : RowAndEnds) → s' ≡ s → EndsRead rs i read → Ok got ≡ move_read_if s' read → EndsRead (shift_rows s rs) i got
 read_moved s s' rs i read got z k e =
-    let p = cond_ok (read_stays_lem s read) got (move_read s read) _ (e ∙ ap (λ (v : ℤ). move_read_if v read) z) in
+    let p = cond_ok (read_stays s read) got (move_read s read) _ (e ∙ ap (λ (v : ℤ). move_read_if v read) z) in
     let a : all_stay s rs ≡ true = sym (read_stays_lem s rs i read k) ∙ p.0 in
     rw p.1 record {
       row = shifted_ok s rs i read.row a k.row;
@@ -188,6 +188,6 @@ read_moved s s' rs i read got z k e =
 
 pub read_kept : (s s' : ℤ) (rs : List Row) (i : ℕ) (read : RowAndEnds) (d : Refusal) → s' ≡ s → EndsRead rs i read → Err d ≡ move_read_if s' read → EndsRead (shift_rows s rs) i read
 read_kept s s' rs i read d z k e =
-    let f = cond_err (read_stays_lem s read) (move_read s read) d _ (e ∙ ap (λ (v : ℤ). move_read_if v read) z) in
+    let f = cond_err (read_stays s read) (move_read s read) d _ (e ∙ ap (λ (v : ℤ). move_read_if v read) z) in
     let a : all_stay s rs ≡ false = sym (read_stays_lem s rs i read k) ∙ f.0 in
     rw a k

@@ -10,7 +10,7 @@ use Rattle.calendar.specs.Instants.{moment, in_calendar, instant_of}
 use Rattle.calendar.proofs.Moments.{instant_of_pair}
 use Rattle.model.specs.declared.Row.{Row}
 use Rattle.model.specs.declared.LeapFlag.{LeapFlag}
-use Rattle.tables.specs.Lines.{time_of, not_after_lem}
+use Rattle.tables.specs.Lines.{time_of, not_after}
 use Rattle.tables.specs.Windows.{flag_of, window_at, window_of, window_if}
 use Rattle.shifts.specs.Shifts.{moved, stays, move_instant, move_row, all_stay, shift_rows, accepts, shift_answer}
 use Rattle.shifts.specs.Stacks.{piled, total, StackedShifts, all_accepted, sum_of, window_under, AnswersAsBelow}
@@ -24,7 +24,7 @@ not_after_z (t ∷ ts) a = cond (le_z (pos (moment t)) a) 1 0 + not_after_z ts a
 abbrev window_z : List Row → ℤ → Result ℕ Refusal
 window_z rs a = window_at (map flag_of rs) (not_after_z (map time_of rs) a)
 
-count_pos : (ts : List Instant) (a : ℕ) → not_after_z ts (pos a) ≡ not_after_lem ts a
+count_pos : (ts : List Instant) (a : ℕ) → not_after_z ts (pos a) ≡ not_after ts a
 count_pos [] a = refl
 count_pos (t ∷ ts) a = ap (λ n. cond (leb (moment t) a) 1 0 + n) (count_pos ts a)
 

@@ -26,14 +26,14 @@ abbrev pub move_row_if : ℤ → Row → Result Row Refusal
 move_row_if s r = cond (stays s r.at) (Ok (move_row s r)) (Err OutsideCalendar)
 
 -- the row and the ends of a table, where all three stay in the calendar
-abbrev pub read_stays_lem : ℤ → RowAndEnds → Bool
-read_stays_lem s read = stays s read.row.at && (stays s read.first.at && stays s read.last.at)
+abbrev pub read_stays : ℤ → RowAndEnds → Bool
+read_stays s read = stays s read.row.at && (stays s read.first.at && stays s read.last.at)
 
 abbrev pub move_read : ℤ → RowAndEnds → RowAndEnds
 move_read s read = record { row = move_row s read.row; first = move_row s read.first; last = move_row s read.last }
 
 abbrev pub move_read_if : ℤ → RowAndEnds → Result RowAndEnds Refusal
-move_read_if s read = cond (read_stays_lem s read) (Ok (move_read s read)) (Err OutsideCalendar)
+move_read_if s read = cond (read_stays s read) (Ok (move_read s read)) (Err OutsideCalendar)
 
 abbrev pub all_stay : ℤ → List Row → Bool
 all_stay s [] = true

@@ -6,9 +6,9 @@ use Rattle.refusal.specs.declared.Refusal.TheVariants.{OutsideCalendar}
 use Rattle.calendar.specs.declared.instant.Instant.{Instant}
 use Rattle.calendar.specs.Instants.{moment, in_calendar, instant_of, instant_if}
 use Rattle.calendar.proofs.Moments.{in_calendar_lem, instant_of_pair, moment_bounds}
-use Rattle.tables.specs.Lines.{not_after_lem, earlier}
+use Rattle.tables.specs.Lines.{not_after, earlier}
 
-pub earlier_is : (ts : List Instant) (m : ℕ) → 0 < m → not_after_lem ts (m - 1) ≡ earlier ts m
+pub earlier_is : (ts : List Instant) (m : ℕ) → 0 < m → not_after ts (m - 1) ≡ earlier ts m
 earlier_is [] m h = refl
 earlier_is (t ∷ ts) m h =
     let r = earlier_is ts m h in

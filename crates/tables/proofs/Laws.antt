@@ -7,25 +7,25 @@ use Rattle.calendar.specs.declared.instant.Instant.{Instant}
 use Rattle.calendar.specs.Instants.{moment, in_calendar, instant_of}
 use Rattle.model.specs.declared.Row.{Row}
 use Rattle.model.specs.declared.LeapFlag.{LeapFlag}
-use Rattle.tables.specs.Lines.{time_of, not_after_lem}
+use Rattle.tables.specs.Lines.{time_of, not_after}
 use Rattle.tables.specs.Windows.{flag_of, same_flags, window_at, window_of, window_if}
 use Rattle.tables.proofs.Flags.{same_flags_at}
 use Rattle.tables.proofs.Orders.{same_length}
 
 -- the outcomes of a window, one by one, for a table with instants ts and rows rs, of which the search counts j
-window_at_lem : (ts : List Instant) (rs : List Row) (at : Instant) (j : ℕ) → ts ≡ map time_of rs → j ≡ not_after_lem ts (moment at) → window_of rs at ≡ window_at (map flag_of rs) j
-window_at_lem ts rs at j e q = ap (window_at (map flag_of rs)) (ap (λ (l : List Instant). not_after_lem l (moment at)) (sym e) ∙ sym q)
+window_at_lem : (ts : List Instant) (rs : List Row) (at : Instant) (j : ℕ) → ts ≡ map time_of rs → j ≡ not_after ts (moment at) → window_of rs at ≡ window_at (map flag_of rs) j
+window_at_lem ts rs at j e q = ap (window_at (map flag_of rs)) (ap (λ (l : List Instant). not_after l (moment at)) (sym e) ∙ sym q)
 
 flags_length : (ts : List Instant) (rs : List Row) → ts ≡ map time_of rs → length (map flag_of rs) ≡ length ts
 flags_length ts rs e = length-map rs flag_of ∙ sym (same_length ts rs e)
 
-pub late_told : (ts : List Instant) (rs : List Row) (at : Instant) (j : ℕ) → ts ≡ map time_of rs → j ≡ not_after_lem ts (moment at) → 5 ≤ j → length ts < j + 5
+pub late_told : (ts : List Instant) (rs : List Row) (at : Instant) (j : ℕ) → ts ≡ map time_of rs → j ≡ not_after ts (moment at) → 5 ≤ j → length ts < j + 5
     → Err WindowTooLate ≡ window_of rs at
 late_told ts rs at j e q h l =
     let n = flags_length ts rs e in
     sym (window_at_lem ts rs at j e q ∙ rw (le-ltb j 5 h, lt-ltb (length (map flag_of rs)) (j + 5) (omega arith)))
 
-pub flags_told : (ts : List Instant) (rs : List Row) (at : Instant) (j : ℕ) (same : Bool) → ts ≡ map time_of rs → j ≡ not_after_lem ts (moment at) → 5 ≤ j → j + 5 ≤ length ts
+pub flags_told : (ts : List Instant) (rs : List Row) (at : Instant) (j : ℕ) (same : Bool) → ts ≡ map time_of rs → j ≡ not_after ts (moment at) → 5 ≤ j → j + 5 ≤ length ts
     → same ≡ same_flags (take 10 (drop (j - 5) (map flag_of rs))) → cond same (Ok (j - 5)) (Err WindowFlagsDiffer) ≡ window_of rs at
 flags_told ts rs at j same e q h l s =
     let n = flags_length ts rs e in
@@ -52,12 +52,12 @@ answer_at fs j f e =
 
 pub window_fits : (rs : List Row) (at : Instant) (f : ℕ) → window_of rs at ≡ Ok f → f + 10 ≤ length rs
 window_fits rs at f e =
-    let a = answer_at (map flag_of rs) (not_after_lem (map time_of rs) (moment at)) f e in
+    let a = answer_at (map flag_of rs) (not_after (map time_of rs) (moment at)) f e in
     let n = length-map rs flag_of in
     omega (arith, a.0)
 
 pub window_same_flags : (rs : List Row) (at : Instant) (f : ℕ) → window_of rs at ≡ Ok f → same_flags (take 10 (drop f (map flag_of rs))) ≡ true
-window_same_flags rs at f e = (answer_at (map flag_of rs) (not_after_lem (map time_of rs) (moment at)) f e).1
+window_same_flags rs at f e = (answer_at (map flag_of rs) (not_after (map time_of rs) (moment at)) f e).1
 
 -- any two of the ten rows have the same flag
 pub window_flags : (rs : List Row) (at : Instant) (f : ℕ) → window_of rs at ≡ Ok f

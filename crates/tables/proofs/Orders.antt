@@ -5,10 +5,10 @@ use Rattle.refusal.specs.declared.Refusal.{Refusal}
 use Rattle.calendar.specs.declared.instant.Instant.{Instant}
 use Rattle.calendar.specs.Instants.{moment}
 use Rattle.model.specs.declared.Row.{Row}
-use Rattle.tables.specs.Lines.{time_of, Ascending, place, not_after_lem, next_after, ascends}
+use Rattle.tables.specs.Lines.{time_of, Ascending, place, not_after, next_after, ascends}
 use Rattle.tables.proofs.Places.{place_read}
 
-none_after : (ts : List Instant) (a : ℕ) → ((k : ℕ) (d : Instant) → k < length ts → a < moment (get_or ts k d)) → not_after_lem ts a ≡ 0
+none_after : (ts : List Instant) (a : ℕ) → ((k : ℕ) (d : Instant) → k < length ts → a < moment (get_or ts k d)) → not_after ts a ≡ 0
 none_after [] a h = refl
 none_after (t ∷ ts) a h =
     let e = lt-leb (moment t) a (h 0 t (omega arith)) in
@@ -19,7 +19,7 @@ none_after (t ∷ ts) a h =
 pub not_after_at : (ts : List Instant) (a j : ℕ) → j ≤ length ts
     → ((k : ℕ) (d : Instant) → k < j → moment (get_or ts k d) ≤ a)
     → ((k : ℕ) (d : Instant) → j ≤ k → k < length ts → a < moment (get_or ts k d))
-    → not_after_lem ts a ≡ j
+    → not_after ts a ≡ j
 not_after_at ts a zero l b h = none_after ts a (λ k d. h k d (omega arith))
 not_after_at [] a (suc j) l b h = omega arith
 not_after_at (t ∷ ts) a (suc j) l b h =
@@ -27,11 +27,11 @@ not_after_at (t ∷ ts) a (suc j) l b h =
     let r = not_after_at ts a j (omega arith) (λ k d m. b (suc k) d (omega arith)) (λ k d m n. h (suc k) d (omega arith) (omega arith)) in
     rw (e, r) (omega arith)
 
-pub not_after_le : (ts : List Instant) (a : ℕ) → not_after_lem ts a ≤ length ts
+pub not_after_le : (ts : List Instant) (a : ℕ) → not_after ts a ≤ length ts
 not_after_le [] a = omega arith
 not_after_le (t ∷ ts) a =
     let h = not_after_le ts a in
-    elim (leb (moment t) a) as (λ b. cond b 1 0 + not_after_lem ts a ≤ suc (length ts)) [ true ↦ omega arith | false ↦ omega arith ]
+    elim (leb (moment t) a) as (λ b. cond b 1 0 + not_after ts a ≤ suc (length ts)) [ true ↦ omega arith | false ↦ omega arith ]
 
 -- the instants up to one that is not after `a` are not after it either
 pub low_more : (ts : List Instant) (a m n : ℕ) (x : Instant) → Ascending ts → m < length ts → Ok x ≡ place ts m → moment x ≤ a → n ≤ m + 1

@@ -20,9 +20,9 @@ place (x ∷ xs) zero = Ok x
 place (x ∷ xs) (suc i) = place xs i
 
 -- how many instants are not after the moment
-abbrev pub not_after_lem : List Instant → ℕ → ℕ
-not_after_lem [] m = 0
-not_after_lem (t ∷ ts) m = cond (nat_le (moment t) m) 1 0 + not_after_lem ts m
+abbrev pub not_after : List Instant → ℕ → ℕ
+not_after [] m = 0
+not_after (t ∷ ts) m = cond (nat_le (moment t) m) 1 0 + not_after ts m
 
 -- how many instants are before the moment
 abbrev pub earlier : List Instant → ℕ → ℕ

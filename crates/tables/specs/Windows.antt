@@ -6,7 +6,7 @@ use Rattle.calendar.specs.Instants.{moment, in_calendar, instant_of}
 use Rattle.model.specs.declared.Row.{Row}
 use Rattle.model.specs.declared.LeapFlag.{LeapFlag}
 use Rattle.model.specs.declared.LeapFlag.TheVariants.{Removed, NoLeap, Added}
-use Rattle.tables.specs.Lines.{time_of, not_after_lem}
+use Rattle.tables.specs.Lines.{time_of, not_after}
 
 abbrev pub flag_of : Row → LeapFlag
 flag_of r = r.flag
@@ -34,7 +34,7 @@ window_at fs j =
 
 -- the number of the first row of the window around an instant
 abbrev pub window_of : List Row → Instant → Result ℕ Refusal
-window_of rs at = window_at (map flag_of rs) (not_after_lem (map time_of rs) (moment at))
+window_of rs at = window_at (map flag_of rs) (not_after (map time_of rs) (moment at))
 
 -- the same for a day and microseconds of the day, which may lie outside the calendar
 abbrev pub window_if : List Row → ℕ → ℕ → Result ℕ Refusal

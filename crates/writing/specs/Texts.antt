@@ -1,7 +1,7 @@
 -- The text of a record, by its table of fields.
 use Rattle.std.specs.Prelude.{ℕ, List, [], ◌∷◌, ◌++◌, ℤ}
 use Rattle.model.specs.Names.{name_text}
-use Rattle.numbers.specs.Texts.{text_of, right_text, two_digits_lem}
+use Rattle.numbers.specs.Texts.{text_of, right_text, two_digits}
 use Rattle.records.specs.declared.field.Form.{Form}
 use Rattle.records.specs.declared.field.Form.TheVariants as form
 use Rattle.records.specs.declared.field.Layout.{Layout}
@@ -16,7 +16,7 @@ use Rattle.records.specs.Tables.{fields_of}
 -- a number of d places, by its layout
 abbrev pub number_text : Layout → ℕ → ℤ → List ℕ
 number_text Plain d v = text_of v d
-number_text TwoDigits d v = two_digits_lem v
+number_text TwoDigits d v = two_digits v
 number_text (Right width) d v = right_text v d width
 
 abbrev pub text_by : Form → Field → Value → List ℕ

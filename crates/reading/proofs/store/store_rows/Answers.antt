@@ -1,17 +1,17 @@
 use Rattle.std.proofs.Common.{◌≡◌, ◌≤◌, length, take, drop, sym, ap, ◌∙◌, arith}
 use Rattle.std.proofs.lemmas.List.{length-take-le}
-use Rattle.lines.specs.Texts.{Text, text_of, on_line_lem}
+use Rattle.lines.specs.Texts.{Text, text_of, on_line}
 use Rattle.reading.specs.Stores.{part_of, with_part, rows_on, rows_in}
 use Rattle.reading.proofs.StoreLaws.{rows_more, rows_room_lem}
 use Rattle.reading.proofs.store.store_rows.Goals as goal
 use Rattle.reading.proofs.store.store_rows.Goals.{In-Some}
 
 -- the text from the line on
-told : (c : In-Some) → text_of (drop c.loop-line.lines.at c.args.text.now) ≡ on_line_lem c.in-Some.line.now (text_of (drop c.next-line.new.self.at c.args.text.now))
+told : (c : In-Some) → text_of (drop c.loop-line.lines.at c.args.text.now) ≡ on_line c.in-Some.line.now (text_of (drop c.next-line.new.self.at c.args.text.now))
 told c =
     ap (λ f. text_of (drop c.loop-line.lines.at f)) (sym c.loop-line.invariant.1)
     ∙ c.in-Some.ensures.text
-    ∙ ap (λ f. on_line_lem c.in-Some.line.now (text_of (drop c.next-line.new.self.at f))) c.loop-line.invariant.1
+    ∙ ap (λ f. on_line c.in-Some.line.now (text_of (drop c.next-line.new.self.at f))) c.loop-line.invariant.1
 
 pub store-part-n-requires : goal.store-part-n-requires
 store-part-n-requires c =

@@ -4,7 +4,7 @@ use Rattle.reading.specs.declared.scan.Scan.{Scan}
 use Rattle.std.proofs.lemmas.Result.{err_from_is_err_and}
 use Rattle.lines.specs.Lines.{next_line, lists}
 use Rattle.lines.specs.Texts.{text_of}
-use Rattle.reading.specs.Scans.{row_count, line_step_lem, on_ok}
+use Rattle.reading.specs.Scans.{row_count, line_step, on_ok}
 use Rattle.reading.specs.Ends.{end_refusal}
 use Rattle.reading.specs.Texts.{scan_from, scan_of}
 use Rattle.reading.proofs.TextLaws.{count_step, one_line, bad_step, at_last, no_text, some_told, none_told, line_taken, bytes_taken_lem, none_taken, short_text}
@@ -41,8 +41,8 @@ loop-line-smaller c =
     omega (arith, c.next.new.self.inside)
 
 -- the line was taken under its number
-taken_at : (c : In-Some) (number : ℕ) → number ≡ c.next.new.self.line → (s : Scan) (r : Result Scan Refusal) → line_step_lem number c.in-Some.line.now s ≡ r → line_step_lem (c.loop-line.lines.line + 1) c.in-Some.line.now s ≡ r
-taken_at c number e s r p = ap (λ n. line_step_lem n c.in-Some.line.now s) (sym (e ∙ counted c)) ∙ p
+taken_at : (c : In-Some) (number : ℕ) → number ≡ c.next.new.self.line → (s : Scan) (r : Result Scan Refusal) → line_step number c.in-Some.line.now s ≡ r → line_step (c.loop-line.lines.line + 1) c.in-Some.line.now s ≡ r
+taken_at c number e s r p = ap (λ n. line_step n c.in-Some.line.now s) (sym (e ∙ counted c)) ∙ p
 
 pub loop-line-preserved : goal.loop-line-preserved
 loop-line-preserved c =

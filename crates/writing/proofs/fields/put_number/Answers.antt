@@ -1,6 +1,6 @@
 use Rattle.std.proofs.Common.{◌+◌, ◌-◌, length, take, drop, sym, ap, ◌∙◌, arith, w64}
 use Rattle.std.proofs.lemmas.Int.{to_z-of_z}
-use Rattle.numbers.specs.Texts.{text_of, right_text, two_digits_lem}
+use Rattle.numbers.specs.Texts.{text_of, right_text, two_digits}
 use Rattle.writing.specs.Texts.{number_text}
 use Rattle.writing.proofs.PlaceLaws.{put_part}
 use Rattle.writing.proofs.FieldLaws.{number_room_lem, number_right, part_long}
@@ -19,7 +19,7 @@ returns-in-TwoDigits c =
     let v = c.args.value in
     let d = c.args.places in
     let is = c.number-len.ensures.is ∙ ap (λ z. length (number_text c.args.layout d z)) (to_z-of_z w64 v c.ranges.value) in
-    let text = c.put-two-digits.ensures ∙ ap two_digits_lem (to_z-of_z w64 v c.ranges.value) ∙ ap (λ how. number_text how d v) (sym c.in-TwoDigits.is) in
+    let text = c.put-two-digits.ensures ∙ ap two_digits (to_z-of_z w64 v c.ranges.value) ∙ ap (λ how. number_text how d v) (sym c.in-TwoDigits.is) in
     record {
       put = put_part c.args.out.now c.put-two-digits.new.field (number_text c.args.layout d v) c.args.at (c.args.at + c.number-len.result - c.args.at) text (omega arith);
       next = ap (λ n. c.args.at + n) is;
