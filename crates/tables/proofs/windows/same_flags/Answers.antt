@@ -21,10 +21,10 @@ unreachable-requires-in_default-row g c = place_in (g.T.PredictionTable.rows c.a
 
 pub returns-then-ne : goal.returns-then-ne
 returns-then-ne g c =
-    sym (sym c.loop-k.invariant ∙ flags_more (g.T.PredictionTable.rows c.args.t.now) c.in-Ok.first.flag c.args.from c.loop-k.k c.in-Ok-row.other true _
-    c.in-Ok-row.ensures (omega arith) c.if-ne.ensures c.if-ne.ensures.2)
+    sym (sym c.loop-k.invariant ∙ flags_more (g.T.PredictionTable.rows c.args.t.now) c.in-Ok.first.flag c.args.from c.loop-k.k c.in-Ok-row.other true
+    c.in-Ok-row.ensures (omega arith) c.if-ne.ensures)
 
 pub loop-k-preserved : goal.loop-k-preserved
 loop-k-preserved g c =
-    sym (flags_more (g.T.PredictionTable.rows c.args.t.now) c.in-Ok.first.flag c.args.from c.loop-k.k c.in-Ok-row.other false _
-    c.in-Ok-row.ensures (omega arith) c.if-ne.ensures c.if-ne.ensures.2) ∙ c.loop-k.invariant
+    sym (flags_more (g.T.PredictionTable.rows c.args.t.now) c.in-Ok.first.flag c.args.from c.loop-k.k c.in-Ok-row.other false
+    c.in-Ok-row.ensures (omega arith) c.if-ne.ensures) ∙ c.loop-k.invariant
