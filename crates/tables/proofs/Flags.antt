@@ -1,7 +1,9 @@
 use Rattle.std.proofs.Common.{◌≡◌, ℕ, zero, suc, ◌+◌, ◌-◌, ◌<◌, ◌≤◌, Bool, true, false, cond, not, ◌&&◌, eqb, List, [], ◌∷◌, map, length, get_or, take, drop, Ok, sym, refl, ap, ◌∙◌, arith}
 use Rattle.std.proofs.lemmas.Bool.{eq-eqb, ne_eqb, eqb-true, and_parts}
+use denote.Enum.Bare.{sameb}
 use Rattle.refusal.specs.declared.Refusal.{Refusal}
 use Rattle.model.specs.declared.Row.{Row}
+use Rattle.model.specs.contracts.LeapFlag.{the_type}
 use Rattle.model.specs.declared.LeapFlag.{LeapFlag}
 use Rattle.model.specs.declared.LeapFlag.TheVariants.{Removed, NoLeap, Added}
 use Rattle.tables.specs.Lines.{place}
@@ -20,18 +22,25 @@ flag_same Added NoLeap e = absurd (omega arith)
 flag_same Added Added e = refl
 
 -- what `!=` says of two flags
-flags_compared : (f g : LeapFlag) (differ same : Bool) → cond same (f ≡ g) (f ≡ g → ⊥) → differ ≡ not same → eqb (flag_place f) (flag_place g) ≡ not differ
-flags_compared f g differ true e d = eq-eqb (flag_place f) (flag_place g) (ap flag_place e) ∙ sym (ap not d)
-flags_compared f g differ false n d = ne_eqb (flag_place f) (flag_place g) (λ e. n (flag_same f g e)) ∙ sym (ap not d)
+flags_compared : (f g : LeapFlag) (differ : Bool) → differ ≡ not (sameb the_type f g) → eqb (flag_place f) (flag_place g) ≡ not differ
+flags_compared Removed Removed differ d = sym (ap not d)
+flags_compared Removed NoLeap differ d = sym (ap not d)
+flags_compared Removed Added differ d = sym (ap not d)
+flags_compared NoLeap Removed differ d = sym (ap not d)
+flags_compared NoLeap NoLeap differ d = sym (ap not d)
+flags_compared NoLeap Added differ d = sym (ap not d)
+flags_compared Added Removed differ d = sym (ap not d)
+flags_compared Added NoLeap differ d = sym (ap not d)
+flags_compared Added Added differ d = sym (ap not d)
 
 -- one row more is looked at
-pub flags_more : (rs : List Row) (f : LeapFlag) (from k : ℕ) (r : Row) (differ same : Bool) → Ok r ≡ place rs (from + k) → k < 10
-    → cond same (r.flag ≡ f) (r.flag ≡ f → ⊥) → differ ≡ not same
+pub flags_more : (rs : List Row) (f : LeapFlag) (from k : ℕ) (r : Row) (differ : Bool) → Ok r ≡ place rs (from + k) → k < 10
+    → differ ≡ not (sameb the_type r.flag f)
     → all_flag f (take (10 - k) (drop (from + k) (map flag_of rs))) ≡ (not differ && all_flag f (take (10 - (k + 1)) (drop (from + (k + 1)) (map flag_of rs))))
-flags_more rs f from k r differ same p h e d =
+flags_more rs f from k r differ p h d =
     let n : 10 - k ≡ suc (10 - (k + 1)) = omega arith in
     let a : from + (k + 1) ≡ from + k + 1 = omega arith in
-    rw (a, n, sym (flags_compared r.flag f differ same e d)) (ap (all_flag f) (cut_more (map flag_of rs) (from + k) (10 - (k + 1)) r.flag (place_map flag_of rs (from + k) r p)))
+    rw (a, n, sym (flags_compared r.flag f differ d)) (ap (all_flag f) (cut_more (map flag_of rs) (from + k) (10 - (k + 1)) r.flag (place_map flag_of rs (from + k) r p)))
 
 -- the first row sets the flag
 pub flags_first : (rs : List Row) (from : ℕ) (r : Row) → Ok r ≡ place rs from → all_flag r.flag (take 9 (drop (from + 1) (map flag_of rs))) ≡ same_flags (take 10 (drop from (map flag_of rs)))

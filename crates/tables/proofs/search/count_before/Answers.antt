@@ -12,7 +12,7 @@ returns-in-Ok g c =
     let b = moment_bounds c.args.at in
     let k : c.joined.result - 1 ≡ m - 1 = ap (λ (n : ℕ). n - 1) c.joined.ensures in
     let s = split_moment (c.joined.result - 1) c.in-Ok.previous c.in-Ok.ensures in
-    c.count-not-after.ensures ∙ ap (not_after ts) (s ∙ k) ∙ earlier_is ts m (let x = b.0 in omega arith)
+    c.count_not_after.ensures ∙ ap (not_after ts) (s ∙ k) ∙ earlier_is ts m (let x = b.0 in omega arith)
 
 pub returns-in-Err : goal.returns-in-Err
 returns-in-Err g c =

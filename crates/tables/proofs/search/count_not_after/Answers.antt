@@ -4,15 +4,15 @@ use Rattle.tables.proofs.Orders.{low_more, high_more, not_after_at}
 use Rattle.tables.proofs.search.count_not_after.Goals as goal
 
 pub unreachable-requires : goal.unreachable-requires
-unreachable-requires g c = place_in (g.T.TimeLine.instants c.args.t.now) (c.loop-low.low + (c.loop-low.high - c.loop-low.low) / 2) _ c.in-default.ensures (omega arith)
+unreachable-requires g c = place_in (g.T.TimeLine.instants c.args.t.now) (c.loop-low.low + (c.loop-low.high - c.loop-low.low) / 2) _ c.in_default.ensures (omega arith)
 
 pub loop-low-preserved-then-joined-limit : goal.loop-low-preserved-then-joined-limit
 loop-low-preserved-then-joined-limit g c =
-    (omega arith, omega arith, low_more _ _ _ _ _ c.in-order.ensures.ascending (omega arith) c.in-Ok.ensures (omega arith) (omega arith), c.loop-low.invariant.3)
+    (omega arith, omega arith, low_more _ _ _ _ _ c.in_order.ensures.ascending (omega arith) c.in-Ok.ensures (omega arith) (omega arith), c.loop-low.invariant.3)
 
 pub loop-low-preserved : goal.loop-low-preserved
 loop-low-preserved g c =
-    (omega arith, omega arith, c.loop-low.invariant.2, high_more _ _ _ _ c.in-order.ensures.ascending (omega arith) c.in-Ok.ensures (omega arith))
+    (omega arith, omega arith, c.loop-low.invariant.2, high_more _ _ _ _ c.in_order.ensures.ascending (omega arith) c.in-Ok.ensures (omega arith))
 
 pub returns : goal.returns
 returns g c =
