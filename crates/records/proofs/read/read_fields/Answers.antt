@@ -21,14 +21,14 @@ at fs i = get_or fs i none
 at_is : (fs : List Field) (i : ℕ) → i < length fs → at fs i ≡ get_or fs i (at fs i)
 at_is fs i h = get_or_default fs i none (at fs i) h
 
-pub returns-in-default : goal.returns-in-default
-returns-in-default c =
+pub returns-in_default : goal.returns-in_default
+returns-in_default c =
     let fs = c.args.fields.now in
     let i = c.loop-i.i in
-    record { told = sym c.loop-i.invariant.0 ∙ laws.no_word c.args.line fs i (take i c.loop-i.out) (at fs i) c.loop-i-test.true (at_is fs i c.loop-i-test.true) _ c.in-default.ensures.words; inside = omega arith }
+    record { told = sym c.loop-i.invariant.0 ∙ laws.no_word c.args.line fs i (take i c.loop-i.out) (at fs i) c.loop-i-test.true (at_is fs i c.loop-i-test.true) _ c.in_default.ensures.words; inside = omega arith }
 
-pub read-field-requires : goal.read-field-requires
-read-field-requires c = All-get_or (λ f. f.places ≤ 6) c.args.fields.now c.loop-i.i none c.loop-i-test.true c.requires.1.1
+pub read_field-requires : goal.read_field-requires
+read_field-requires c = All-get_or (λ f. f.places ≤ 6) c.args.fields.now c.loop-i.i none c.loop-i-test.true c.requires.1.1
 
 -- the values before the word, as the checker reads `&out[0..i]`
 part : (out : List Value) (i : ℕ) → take (i - 0) out ≡ take i out
