@@ -14,10 +14,10 @@ step c =
     rw (c.from.ensures, c.from-in-loop-byte.ensures)
     (sym (digits.read_more c.args.most c.loop-byte.value c.args.word.now c.loop-byte.byte-index c.loop-byte-test.true (search rules)))
 
-pub returns-then-not-is-ascii-digit : goal.returns-then-not-is-ascii-digit
-returns-then-not-is-ascii-digit c =
+pub returns-then-not-is_ascii_digit : goal.returns-then-not-is_ascii_digit
+returns-then-not-is_ascii_digit c =
     let none : numeral_of c.args.most c.args.word.now ≡ None =
-    so_far (goal.at.returns-then-not-is-ascii-digit c).In-loop-byte ∙ digits.read_no_digit c.args.most c.loop-byte.value c.args.word.now c.loop-byte.byte-index c.loop-byte-test.true (search rules) in
+    so_far (goal.at.returns-then-not-is_ascii_digit c).In-loop-byte ∙ digits.read_no_digit c.args.most c.loop-byte.value c.args.word.now c.loop-byte.byte-index c.loop-byte-test.true (search rules) in
     record { is = sym none; bound = omega arith }
 
 pub returns-then-next-from : goal.returns-then-next-from
@@ -35,6 +35,6 @@ loop-byte-preserved c = (step (goal.at.loop-byte-preserved c).After-from-in-loop
 pub returns : goal.returns
 returns c =
     record {
-      is = sym (digits.read_some c.args.most c.args.word.now (omega (arith, false-eqb _ 0 c.if-is-empty.ensures)) ∙ sym c.loop-byte.invariant.0 ∙ digits.read_all c.args.most c.loop-byte.value c.args.word.now c.loop-byte.byte-index c.loop-byte-test.false c.loop-byte.invariant.1);
+      is = sym (digits.read_some c.args.most c.args.word.now (omega (arith, false-eqb _ 0 c.if-is_empty.ensures)) ∙ sym c.loop-byte.invariant.0 ∙ digits.read_all c.args.most c.loop-byte.value c.args.word.now c.loop-byte.byte-index c.loop-byte-test.false c.loop-byte.invariant.1);
       bound = c.loop-byte.invariant.1;
     }
