@@ -5,8 +5,8 @@ use Rattle.shifts.proofs.moves.all_stay.Goals as goal
 
 pub returns-in-Ok : goal.returns-in-Ok
 returns-in-Ok g c =
-    ok_stays c.args.shift _ (g.T.PredictionTable.rows c.args.below.now) 0 c.in-Ok.read c.move-read.result c.is-ok.result
-    (to_z-of_z w64 c.args.shift c.ranges.shift) c.in-Ok.ensures c.move-read.ensures c.is-ok.ensures.value
+    ok_stays c.args.shift _ (g.T.PredictionTable.rows c.args.below.now) 0 c.in-Ok.read c.move_read.result c.is_ok.result
+    (to_z-of_z w64 c.args.shift c.ranges.shift) c.in-Ok.ensures c.move_read.ensures c.is_ok.ensures.value
 
 pub returns-in-Err : goal.returns-in-Err
 returns-in-Err g c = none_stay c.args.shift (g.T.PredictionTable.rows c.args.below.now) _ c.in-Err.ensures

@@ -15,7 +15,7 @@ pub unreachable-requires : goal.unreachable-requires
 unreachable-requires c =
     let b = moment_bounds c.args.self.now.first in
     read_err (moment c.args.self.now.first) c.joined.result c.args.i (c.args.self.now.seconds * 1000000) c.args.self.now.count _
-    c.joined.ensures (omega arith) b.0 c.args.self.now.inside c.in-default.ensures
+    c.joined.ensures (omega arith) b.0 c.args.self.now.inside c.in_default.ensures
 
 pub returns : goal.returns
 returns c =
