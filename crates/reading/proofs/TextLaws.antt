@@ -1,4 +1,4 @@
-use Rattle.std.proofs.Common.{◌≡◌, ℕ, ◌+◌, ◌≤◌, Bool, true, false, cond, List, [], ◌∷◌, length, drop, Some, None, Ok, Err, Option, Result, sym, refl, ap, ◌∙◌, arith, MutBor}
+use Rattle.std.proofs.Common.{◌≡◌, ℕ, ◌+◌, ◌≤◌, Bool, true, false, cond, List, [], ◌∷◌, length, drop, Some, None, Ok, Err, Option, Result, sym, refl, ap, ◌∙◌, arith, Bor}
 use Rattle.std.proofs.lemmas.List.{drop-drop}
 use Rattle.refusal.specs.declared.Refusal.{Refusal}
 use Rattle.model.specs.declared.Row.{Row}
@@ -91,23 +91,23 @@ module _ (xs : List ℕ) (n at : ℕ) (s : Scan) where
   no_text e p = let b = bad_line (n + 1) (drop at xs) e p in ap (λ t. scan_from n t s) b.here ∙ ap (scan_end_by s n) b.refusal
 
 -- what the reader of lines says, with its references in place of the bytes
-module _ (file xs : List ℕ) (n at : ℕ) (o : Option (MutBor (List ℕ))) (same : file ≡ xs) (gives : lists (Ok o) ≡ next_line (n + 1) (drop at file)) where
+module _ (file xs : List ℕ) (n at : ℕ) (o : Option (Bor (List ℕ))) (same : file ≡ xs) (gives : lists (Ok o) ≡ next_line (n + 1) (drop at file)) where
   gives_here : lists (Ok o) ≡ next_line (n + 1) (drop at xs)
   gives_here = gives ∙ ap (λ f. next_line (n + 1) (drop at f)) same
 
-  pub some_told : (l : MutBor (List ℕ)) → o ≡ Some l → next_line (n + 1) (drop at xs) ≡ Ok (Some l.now)
+  pub some_told : (l : Bor (List ℕ)) → o ≡ Some l → next_line (n + 1) (drop at xs) ≡ Ok (Some l.now)
   some_told l e = sym gives_here ∙ ap (λ q. lists (Ok q)) e
 
   pub none_told : o ≡ None → next_line (n + 1) (drop at xs) ≡ Ok None
   none_told e = sym gives_here ∙ ap (λ q. lists (Ok q)) e
 
-pub line_taken : (m n : ℕ) (o : Option (MutBor (List ℕ))) (l : MutBor (List ℕ)) → m ≡ n + lines_taken (lists (Ok o)) → o ≡ Some l → m ≡ n + 1
+pub line_taken : (m n : ℕ) (o : Option (Bor (List ℕ))) (l : Bor (List ℕ)) → m ≡ n + lines_taken (lists (Ok o)) → o ≡ Some l → m ≡ n + 1
 line_taken m n o l e s = e ∙ ap (λ q. n + lines_taken (lists (Ok q))) s
 
-pub bytes_taken_lem : (m n : ℕ) (o : Option (MutBor (List ℕ))) (l : MutBor (List ℕ)) → m ≡ n + bytes_taken (lists (Ok o)) → o ≡ Some l → m ≡ n + (length l.now + 1)
+pub bytes_taken_lem : (m n : ℕ) (o : Option (Bor (List ℕ))) (l : Bor (List ℕ)) → m ≡ n + bytes_taken (lists (Ok o)) → o ≡ Some l → m ≡ n + (length l.now + 1)
 bytes_taken_lem m n o l e s = e ∙ ap (λ q. n + bytes_taken (lists (Ok q))) s
 
-pub none_taken : (m n : ℕ) (o : Option (MutBor (List ℕ))) → m ≡ n + lines_taken (lists (Ok o)) → o ≡ None → m ≡ n
+pub none_taken : (m n : ℕ) (o : Option (Bor (List ℕ))) → m ≡ n + lines_taken (lists (Ok o)) → o ≡ None → m ≡ n
 none_taken m n o e s = e ∙ ap (λ q. n + lines_taken (lists (Ok q))) s ∙ omega arith
 
 pub short_text : (p : Part) (room : Option ℕ) (bs : List ℕ) (s : Scan) → length bs ≤ 2097152 → s ≡ started p room → scan_from 0 (text_of bs) s ≡ scan_of p room bs

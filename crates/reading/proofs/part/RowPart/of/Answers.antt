@@ -6,4 +6,4 @@ use Rattle.reading.proofs.part.RowPart.of.Goals as goal
 pub returns-in-Some : goal.returns-in-Some
 returns-in-Some c =
     let line = c.args.line.now in
-    c.part-of.ensures ∙ ap (λ l. part_by_record c.args.number l c.in-Some.kind) (take_rest line 2) ∙ ap (part_by_type c.args.number line) c.in-Some.ensures
+    c.part_of.ensures ∙ ap (λ l. part_by_record c.args.number l c.in-Some.kind) (take_rest line 2) ∙ ap (part_by_type c.args.number line) c.in-Some.ensures
