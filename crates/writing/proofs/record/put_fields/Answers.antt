@@ -17,11 +17,11 @@ room c =
     let l = length-append (32 ∷ field_text (field_at fs i) (value_at vs i)) (fields_text (drop (i + 1) fs) (drop (i + 1) vs)) in
     omega (arith, e, l)
 
-pub put-byte-start-requires : goal.put-byte-start-requires
-put-byte-start-requires c = omega (arith, room (goal.at.put-byte-start-requires c).In-loop-i)
+pub put_byte-start-requires : goal.put_byte-start-requires
+put_byte-start-requires c = omega (arith, room (goal.at.put_byte-start-requires c).In-loop-i)
 
-pub put-field-end-requires : goal.put-field-end-requires
-put-field-end-requires c = omega (arith, room (goal.at.put-field-end-requires c).In-loop-i)
+pub put_field-end-requires : goal.put_field-end-requires
+put_field-end-requires c = omega (arith, room (goal.at.put_field-end-requires c).In-loop-i)
 
 pub loop-i-preserved : goal.loop-i-preserved
 loop-i-preserved c =
@@ -30,8 +30,8 @@ loop-i-preserved c =
     let i = c.loop-i.i in
     let text = field_text (field_at fs i) (value_at vs i) in
     let fits = room (goal.at.loop-i-preserved c).In-loop-i in
-    let word = both c.loop-i.out c.loop-i.end (32 ∷ []) c.put-byte-start.new.out c.put-byte-start.result text c.put-field-end.new.out c.put-field-end.result (omega (arith, fits)) c.put-byte-start.ensures c.put-field-end.ensures in
-    leads_more c.loop-i.out c.loop-i.end (fields_text (drop i fs) (drop i vs)) c.args.out.now c.args.at (fields_text fs vs) (32 ∷ text) c.put-field-end.new.out c.put-field-end.result (fields_text (drop (i + 1) fs) (drop (i + 1) vs)) (fields_more fs vs i (omega arith)) (omega (arith, fits)) word c.loop-i.invariant
+    let word = both c.loop-i.out c.loop-i.end (32 ∷ []) c.put_byte-start.new.out c.put_byte-start.result text c.put_field-end.new.out c.put_field-end.result (omega (arith, fits)) c.put_byte-start.ensures c.put_field-end.ensures in
+    leads_more c.loop-i.out c.loop-i.end (fields_text (drop i fs) (drop i vs)) c.args.out.now c.args.at (fields_text fs vs) (32 ∷ text) c.put_field-end.new.out c.put_field-end.result (fields_text (drop (i + 1) fs) (drop (i + 1) vs)) (fields_more fs vs i (omega arith)) (omega (arith, fits)) word c.loop-i.invariant
 
 pub returns : goal.returns
 returns c =

@@ -14,16 +14,16 @@ room c =
     let e = ap length (rows_more rs i c.row-item.result c.loop-row-test.true c.row-item.is) in
     omega (arith, e, length-append (row_text c.row-item.result) (rows_text (drop (i + 1) rs)), c.loop-row.invariant.end)
 
-pub put-row-end-requires : goal.put-row-end-requires
-put-row-end-requires c = room (goal.at.put-row-end-requires c).After-row-item
+pub put_row-end-requires : goal.put_row-end-requires
+put_row-end-requires c = room (goal.at.put_row-end-requires c).After-row-item
 
 pub loop-row-preserved : goal.loop-row-preserved
 loop-row-preserved c =
     let rs = c.args.rows.now in
     let i = c.loop-row.row-index in
     let r = c.row-item.result in
-    leads_more c.loop-row.out c.loop-row.end (rows_text (drop i rs)) c.args.out.now c.args.at (rows_text rs) (row_text r) c.put-row-end.new.out c.put-row-end.result (rows_text (drop (i + 1) rs))
-    (rows_more rs i r c.loop-row-test.true c.row-item.is) (room (goal.at.loop-row-preserved c).After-row-item) c.put-row-end.ensures c.loop-row.invariant
+    leads_more c.loop-row.out c.loop-row.end (rows_text (drop i rs)) c.args.out.now c.args.at (rows_text rs) (row_text r) c.put_row-end.new.out c.put_row-end.result (rows_text (drop (i + 1) rs))
+    (rows_more rs i r c.loop-row-test.true c.row-item.is) (room (goal.at.loop-row-preserved c).After-row-item) c.put_row-end.ensures c.loop-row.invariant
 
 pub returns : goal.returns
 returns c =

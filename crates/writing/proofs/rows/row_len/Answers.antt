@@ -6,5 +6,5 @@ use Rattle.writing.proofs.rows.row_len.Goals as goal
 
 pub returns : goal.returns
 returns c =
-    let line = ap (λ vs. length (record_text rec.Position vs)) c.position-values.ensures in
+    let line = ap (λ vs. length (record_text rec.Position vs)) c.position_values.ensures in
     record { is = omega (arith, line, length_row c.args.row.now); small = omega arith }

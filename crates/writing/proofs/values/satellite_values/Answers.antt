@@ -14,4 +14,4 @@ returns c =
     let h : SFits w64 s.rotation = search rules in
     let i : SFits w64 s.centre_of_mass = search rules in
     let j : SFits w64 s.location = search rules in
-    simp (c.time-values-start.ensures, c.time-values-end.ensures, c.whole.ensures, to_z-of_z)
+    simp (c.time_values-start.ensures, c.time_values-end.ensures, c.whole.ensures, to_z-of_z)
