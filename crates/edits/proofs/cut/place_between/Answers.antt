@@ -6,8 +6,8 @@ use Rattle.edits.proofs.cut.place_between.Goals as goal
 pub returns-then-joined : goal.returns-then-joined
 returns-then-joined c = backwards c.args.hold (moment c.args.from) (moment c.args.to) c.args.rows.now (omega arith)
 
-pub overflow-sub-taken : goal.overflow-sub-taken
-overflow-sub-taken c =
+pub overflow_sub-taken : goal.overflow_sub-taken
+overflow_sub-taken c =
     (at_place c.args.hold (moment c.args.from) (moment c.args.to) c.args.rows.now c.find-place.result (omega arith) c.requires.0
     c.find-place.ensures.first c.find-place.ensures.end c.find-place.ensures.put).order
 

@@ -3,5 +3,5 @@ use Rattle.edits.proofs.cut.place_cut.Goals as goal
 
 pub returns : goal.returns
 returns c =
-    decided c.args.hold c.args.day c.args.micros c.args.end-day c.args.end-micros c.args.rows.now c.in-ok-from.from c.in-ok-to.to c.place-between.result
-    c.in-ok-from.ensures c.in-ok-to.ensures c.place-between.ensures
+    decided c.args.hold c.args.day c.args.micros c.args.end_day c.args.end_micros c.args.rows.now c.in_ok-from.from c.in_ok-to.to c.place_between.result
+    c.in_ok-from.ensures c.in_ok-to.ensures c.place_between.ensures

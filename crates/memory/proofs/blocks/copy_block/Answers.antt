@@ -15,4 +15,4 @@ copied d s p at from n h e =
     ∙ ap (λ t. take at d ++ t ++ drop (at + n) d) (take-take n n (drop from s) (omega arith))
 
 pub returns : goal.returns
-returns g c = copied c.args.cells.now c.args.source.now c.copy-from-slice.new.self c.args.to c.args.from c.args.n c.requires.source c.copy-from-slice.ensures.after
+returns g c = copied c.args.cells.now c.args.source.now c.copy_from_slice.new.self c.args.to c.args.from c.args.n c.requires.source c.copy_from_slice.ensures.after

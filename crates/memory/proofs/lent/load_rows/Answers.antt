@@ -7,7 +7,7 @@ use Rattle.memory.proofs.lent.load_rows.Goals as goal
 
 pub returns : goal.returns
 returns c =
-    let part = c.store-rows.new.rows in
+    let part = c.store_rows.new.rows in
     let cells = c.args.memory.now.cells.now in
     let at = c.args.at in
     let n = c.args.n in
@@ -15,7 +15,7 @@ returns c =
     let count = c.requires.count in
     let target = c.requires.target in
     let long : length part ≡ n = search rules in
-    let all : c.store-rows.result ≡ n = c.store-rows.ensures.count ∙ sym count in
-    let same : part ≡ rows = sym (take_all n part (omega arith)) ∙ ap (λ j. take j part) (sym all) ∙ c.store-rows.ensures.rows in
+    let all : c.store_rows.result ≡ n = c.store_rows.ensures.count ∙ sym count in
+    let same : part ≡ rows = sym (take_all n part (omega arith)) ∙ ap (λ j. take j part) (sym all) ∙ c.store_rows.ensures.rows in
     let value = put_mid-paste at ((at + n) - at) cells part rows n same (omega arith) count in
     record { value = value; same = refl; len = ap length value ∙ length-paste cells at rows n target (omega arith) }

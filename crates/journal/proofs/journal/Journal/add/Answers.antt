@@ -10,4 +10,4 @@ returns c =
     let long = length-take j.len j.entries in
     let few = c.requires.few in
     let some = c.requires.some in
-    added j.entries c.move-block.new.cells j.len c.args.keep c.args.entry (omega arith) (omega arith) c.move-block.ensures (omega arith)
+    added j.entries c.move_block.new.cells j.len c.args.keep c.args.entry (omega arith) (omega arith) c.move_block.ensures (omega arith)

@@ -6,4 +6,4 @@ pub returns : goal.returns
 returns c =
     let j = c.args.self.now in
     let full = j.full in
-    taken_out j.entries c.move-block.new.cells j.len _ (omega arith) (omega arith) c.move-block.ensures
+    taken_out j.entries c.move_block.new.cells j.len _ (omega arith) (omega arith) c.move_block.ensures
