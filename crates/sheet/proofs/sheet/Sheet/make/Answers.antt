@@ -4,8 +4,8 @@ use Rattle.journal.specs.Journals.{entries_of, Fitting}
 use Rattle.sheet.proofs.ChangeLaws.{numbers, keeps, pasts_after, counted_after, rows_after, sound_after}
 use Rattle.sheet.proofs.sheet.Sheet.make.Goals as goal
 
-pub overflow-sub-self : goal.overflow-sub-self
-overflow-sub-self c =
+pub overflow_sub-self : goal.overflow_sub-self
+overflow_sub-self c =
     let s = c.args.self.now in
     let es = entries_of s.journal in
     let block = rows_in c.args.block.now in
@@ -16,8 +16,8 @@ overflow-sub-self c =
     let g : Fitting (length s.taken.cells.now - taken) es k n = subst (λ m. Fitting (m - taken) es k n) c.len.ensures c.fitting-stay.ensures in
     (numbers s.rows.cells.now s.taken.cells.now s.len s.held es s.inside s.kept s.counted c.args.edit c.args.place block ready k n g).stays
 
-pub invariant-of-self : goal.invariant-of-self
-invariant-of-self c =
+pub invariant_of-self : goal.invariant_of-self
+invariant_of-self c =
     let s = c.args.self.now in
     let es = entries_of s.journal in
     let block = rows_in c.args.block.now in
@@ -27,21 +27,12 @@ invariant-of-self c =
     let taken = c.args.place.end - c.args.place.first in
     let g : Fitting (length s.taken.cells.now - taken) es k n = subst (λ m. Fitting (m - taken) es k n) c.len.ensures c.fitting-stay.ensures in
     let m = numbers s.rows.cells.now s.taken.cells.now s.len s.held es s.inside s.kept s.counted c.args.edit c.args.place block ready k n g in
-    let l : length c.load-rows.new.memory.cells.now ≡ length s.rows.cells.now = c.load-rows.ensures.len ∙ c.move-block-2.ensures.len in
-    let h : length c.copy-from.new.self.cells.now ≡ length s.taken.cells.now = c.copy-from.ensures.len ∙ c.move-block.ensures.len in
+    let l : length c.load_rows.new.memory.cells.now ≡ length s.rows.cells.now = c.load_rows.ensures.len ∙ c.move_block-2.ensures.len in
+    let h : length c.copy_from.new.self.cells.now ≡ length s.taken.cells.now = c.copy_from.ensures.len ∙ c.move_block.ensures.len in
     let order = m.order in
     let within = m.within in
     let size = m.size in
-    let room = m.room in (
-      omega arith,
-      (
-        omega arith,
-        (
-          counted_after s.rows.cells.now s.taken.cells.now s.len s.held es s.inside s.kept s.counted c.args.edit c.args.place block ready k n g c.move-block.new.self.cells.now c.copy-from.new.self.cells.now c.move-block.ensures.value c.copy-from.ensures.value (entries_of c.add.new.self) c.add.ensures,
-          (sound_after s.rows.cells.now s.taken.cells.now s.len s.held es s.inside s.kept s.counted c.args.edit c.args.place block ready k n g c.move-block.new.self.cells.now c.copy-from.new.self.cells.now c.move-block.ensures.value c.copy-from.ensures.value (entries_of c.add.new.self) c.add.ensures c.move-block-2.new.self.cells.now c.load-rows.new.memory.cells.now c.move-block-2.ensures.value c.load-rows.ensures.value l s.sound, tt),
-        ),
-      ),
-    )
+    let room = m.room in record { inside = omega arith; kept = omega arith; counted = counted_after s.rows.cells.now s.taken.cells.now s.len s.held es s.inside s.kept s.counted c.args.edit c.args.place block ready k n g c.move_block.new.self.cells.now c.copy_from.new.self.cells.now c.move_block.ensures.value c.copy_from.ensures.value (entries_of c.add.new.self) c.add.ensures; sound = sound_after s.rows.cells.now s.taken.cells.now s.len s.held es s.inside s.kept s.counted c.args.edit c.args.place block ready k n g c.move_block.new.self.cells.now c.copy_from.new.self.cells.now c.move_block.ensures.value c.copy_from.ensures.value (entries_of c.add.new.self) c.add.ensures c.move_block-2.new.self.cells.now c.load_rows.new.memory.cells.now c.move_block-2.ensures.value c.load_rows.ensures.value l s.sound }
 
 pub returns : goal.returns
 returns c =
@@ -53,12 +44,12 @@ returns c =
     let n = c.fitting-stay.result.rows in
     let taken = c.args.place.end - c.args.place.first in
     let g : Fitting (length s.taken.cells.now - taken) es k n = subst (λ m. Fitting (m - taken) es k n) c.len.ensures c.fitting-stay.ensures in
-    let l : length c.load-rows.new.memory.cells.now ≡ length s.rows.cells.now = c.load-rows.ensures.len ∙ c.move-block-2.ensures.len in
-    let h : length c.copy-from.new.self.cells.now ≡ length s.taken.cells.now = c.copy-from.ensures.len ∙ c.move-block.ensures.len in
-    let r = rows_after s.rows.cells.now s.taken.cells.now s.len s.held es s.inside s.kept s.counted c.args.edit c.args.place block ready k n g c.move-block.new.self.cells.now c.copy-from.new.self.cells.now c.move-block.ensures.value c.copy-from.ensures.value (entries_of c.add.new.self) c.add.ensures c.move-block-2.new.self.cells.now c.load-rows.new.memory.cells.now c.move-block-2.ensures.value c.load-rows.ensures.value in
+    let l : length c.load_rows.new.memory.cells.now ≡ length s.rows.cells.now = c.load_rows.ensures.len ∙ c.move_block-2.ensures.len in
+    let h : length c.copy_from.new.self.cells.now ≡ length s.taken.cells.now = c.copy_from.ensures.len ∙ c.move_block.ensures.len in
+    let r = rows_after s.rows.cells.now s.taken.cells.now s.len s.held es s.inside s.kept s.counted c.args.edit c.args.place block ready k n g c.move_block.new.self.cells.now c.copy_from.new.self.cells.now c.move_block.ensures.value c.copy_from.ensures.value (entries_of c.add.new.self) c.add.ensures c.move_block-2.new.self.cells.now c.load_rows.new.memory.cells.now c.move_block-2.ensures.value c.load_rows.ensures.value in
     record {
       kept = k;
       keeps = keeps s.rows.cells.now s.taken.cells.now s.len s.held es s.inside s.kept s.counted c.args.edit c.args.place block ready k n g;
-      state = λ q. record { room = l q; hold = h q; header = s.header; rows = r q; changes = c.saturating-add-self.ensures q };
-      journal = pasts_after s.rows.cells.now s.taken.cells.now s.len s.held es s.inside s.kept s.counted c.args.edit c.args.place block ready k n g c.move-block.new.self.cells.now c.copy-from.new.self.cells.now c.move-block.ensures.value c.copy-from.ensures.value (entries_of c.add.new.self) c.add.ensures;
+      state = λ q. record { room = l q; hold = h q; header = s.header; rows = r q; changes = c.saturating_add-self.ensures q };
+      journal = pasts_after s.rows.cells.now s.taken.cells.now s.len s.held es s.inside s.kept s.counted c.args.edit c.args.place block ready k n g c.move_block.new.self.cells.now c.copy_from.new.self.cells.now c.move_block.ensures.value c.copy_from.ensures.value (entries_of c.add.new.self) c.add.ensures;
     }

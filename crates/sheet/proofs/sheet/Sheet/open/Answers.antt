@@ -15,22 +15,22 @@ use Rattle.sheet.specs.Sheets.{view}
 use Rattle.sheet.specs.Sound.{pasts_of}
 use Rattle.sheet.proofs.OpenLaws.{rows_open, sound_open}
 use Rattle.sheet.proofs.sheet.Sheet.open.Goals as goal
-use Rattle.sheet.proofs.sheet.Sheet.open.Goals.{In-ok-scan}
+use Rattle.sheet.proofs.sheet.Sheet.open.Goals.{In_ok-scan}
 
 -- the rows of the file are in order, and fit the memory and a sheet
-record Fit (c : In-ok-scan) : Type 0 where
-  count : count_in c.in-ok-scan.scan.summary ≡ length (rows_in c.args.file.now)
+record Fit (c : In_ok-scan) : Type 0 where
+  count : count_in c.in_ok-scan.scan.summary ≡ length (rows_in c.args.file.now)
   room : length (rows_in c.args.file.now) ≤ min (length c.args.self.now.rows.cells.now) 8192
   order : in_order (rows_in c.args.file.now) ≡ true
-  told : opened_from (length c.args.self.now.rows.cells.now) c.args.file.now ≡ Ok (record { header = c.in-ok-scan.scan.header; rows = rows_in c.args.file.now })
+  told : opened_from (length c.args.self.now.rows.cells.now) c.args.file.now ≡ Ok (record { header = c.in_ok-scan.scan.header; rows = rows_in c.args.file.now })
 
-fit : (c : In-ok-scan) → Fit c
+fit : (c : In_ok-scan) → Fit c
 fit c =
     let file = c.args.file.now in
-    let scan = c.in-ok-scan.scan in
+    let scan = c.in_ok-scan.scan in
     let room = c.min-room.result in
     let n : room ≡ min (length c.args.self.now.rows.cells.now) 8192 = c.min-room.ensures ∙ ap (λ k. min k 8192) c.len.ensures in
-    let told = sym c.in-ok-scan.ensures in
+    let told = sym c.in_ok-scan.ensures in
     let t = tracks_text File (Some room) file scan told in
     let f = t.fits room refl in
     record {
@@ -40,49 +40,42 @@ fit c =
       told = ap (λ k. contents_by (scan_of File (Some k) file) (rows_in file)) (sym n) ∙ ap (λ r. contents_by r (rows_in file)) told;
     }
 
-pub load-rows-requires : goal.load-rows-requires
-load-rows-requires c =
-    let f = fit (goal.at.load-rows-requires c).In-ok-scan in
-    let n = c.row-count-count.ensures in
+pub load_rows-requires : goal.load_rows-requires
+load_rows-requires c =
+    let f = fit (goal.at.load_rows-requires c).In_ok-scan in
+    let n = c.row_count-count.ensures in
     let count = f.count in
     let room = f.room in
     record { count = n ∙ count; target = omega arith }
 
-pub invariant-of-self : goal.invariant-of-self
-invariant-of-self c =
-    let f = fit (goal.at.invariant-of-self c).In-ok-scan in
+pub invariant_of-self : goal.invariant_of-self
+invariant_of-self c =
+    let f = fit (goal.at.invariant_of-self c).In_ok-scan in
     let s = c.args.self.now in
-    let n : c.row-count-count.result ≡ length (rows_in c.args.file.now) = c.row-count-count.ensures ∙ f.count in
+    let n : c.row_count-count.result ≡ length (rows_in c.args.file.now) = c.row_count-count.ensures ∙ f.count in
     let room = f.room in
-    let len = c.load-rows.ensures.len in (
-      omega arith,
-      (
-        omega arith,
-        (
-          sym (ap taken_by c.new-self.ensures),
-          (
-            sound_open s.rows.cells.now (rows_in c.args.file.now) c.row-count-count.result c.load-rows.new.memory.cells.now n room c.load-rows.ensures.value
-                (entries_of c.new-self.result) _ c.new-self.ensures len f.order,
-            tt,
-          ),
-        ),
-      ),
-    )
+    let len = c.load_rows.ensures.len in record {
+      inside = omega arith;
+      kept = omega arith;
+      counted = sym (ap taken_by c.new-self.ensures);
+      sound = sound_open s.rows.cells.now (rows_in c.args.file.now) c.row_count-count.result c.load_rows.new.memory.cells.now n room c.load_rows.ensures.value
+          (entries_of c.new-self.result) _ c.new-self.ensures len f.order;
+    }
 
 pub returns : goal.returns
 returns c =
-    let f = fit (goal.at.returns c).In-ok-scan in
+    let f = fit (goal.at.returns c).In_ok-scan in
     let s = c.args.self.now in
     let file = c.args.file.now in
-    let n : c.row-count-count.result ≡ length (rows_in file) = c.row-count-count.ensures ∙ f.count in
-    let r = rows_open s.rows.cells.now (rows_in file) c.row-count-count.result c.load-rows.new.memory.cells.now n f.room c.load-rows.ensures.value in
+    let n : c.row_count-count.result ≡ length (rows_in file) = c.row_count-count.ensures ∙ f.count in
+    let r = rows_open s.rows.cells.now (rows_in file) c.row_count-count.result c.load_rows.new.memory.cells.now n f.room c.load_rows.ensures.value in
     let j = ap (λ z. pasts_of z (take 0 s.taken.cells.now)) c.new-self.ensures in
     record {
       opened = record {
         answer = sym (ap accepted f.told);
         after =
             (λ i. record {
-              state = record { room = c.load-rows.ensures.len i; hold = length s.taken.cells.now; header = Some c.in-ok-scan.scan.header; rows = r i; changes = 0 };
+              state = record { room = c.load_rows.ensures.len i; hold = length s.taken.cells.now; header = Some c.in_ok-scan.scan.header; rows = r i; changes = 0 };
               journal = j i;
             })
             ∙ sym (ap (after_opening (view s)) f.told);

@@ -6,59 +6,59 @@ use Rattle.sheet.proofs.UndoLaws.{newest, numbers, rows_after, sound_after, past
 use Rattle.sheet.proofs.AnswerLaws.{undo_accepted, open_by}
 use Rattle.sheet.proofs.sheet.Sheet.undo.Goals as goal
 
-pub move-block-requires : goal.move-block-requires
-move-block-requires c =
+pub move_block-requires : goal.move_block-requires
+move_block-requires c =
     let s = c.args.self.now in
     let e = c.in-Some.newest in
-    let es = entries_of c.take-newest.new.self in
+    let es = entries_of c.take_newest.new.self in
     let m = numbers s.rows.cells.now s.taken.cells.now s.len s.held (entries_of s.journal) es e s.inside s.kept s.counted s.sound c.in-Some.ensures in
     let inside = s.inside in
     let rows = m.in_rows in
     record { source = omega arith; target = m.fits }
 
-pub copy-from-requires : goal.copy-from-requires
-copy-from-requires c =
+pub copy_from-requires : goal.copy_from-requires
+copy_from-requires c =
     let s = c.args.self.now in
     let e = c.in-Some.newest in
-    let es = entries_of c.take-newest.new.self in
+    let es = entries_of c.take_newest.new.self in
     let m = numbers s.rows.cells.now s.taken.cells.now s.len s.held (entries_of s.journal) es e s.inside s.kept s.counted s.sound c.in-Some.ensures in
     let kept = s.kept in
     let sum = m.held_sum in
     let fits = m.fits in
-    let len = c.move-block.ensures.len in
+    let len = c.move_block.ensures.len in
     record { source = omega arith; target = omega arith }
 
-pub invariant-of-self-in-Some : goal.invariant-of-self-in-Some
-invariant-of-self-in-Some c =
+pub invariant_of-self-in-Some : goal.invariant_of-self-in-Some
+invariant_of-self-in-Some c =
     let s = c.args.self.now in
     let e = c.in-Some.newest in
-    let es = entries_of c.take-newest.new.self in
+    let es = entries_of c.take_newest.new.self in
     let m = numbers s.rows.cells.now s.taken.cells.now s.len s.held (entries_of s.journal) es e s.inside s.kept s.counted s.sound c.in-Some.ensures in
-    let l : length c.copy-from.new.self.cells.now ≡ length s.rows.cells.now = c.copy-from.ensures.len ∙ c.move-block.ensures.len in
+    let l : length c.copy_from.new.self.cells.now ≡ length s.rows.cells.now = c.copy_from.ensures.len ∙ c.move_block.ensures.len in
     let kept = s.kept in
     let sum = m.held_sum in
     let rows = m.in_rows in
     let fits = m.fits in
-    (omega arith, (omega arith, (omega arith, (sound_after s.rows.cells.now s.taken.cells.now s.len s.held (entries_of s.journal) es e s.inside s.kept s.counted s.sound c.in-Some.ensures c.move-block.new.self.cells.now c.copy-from.new.self.cells.now c.move-block.ensures.value c.copy-from.ensures.value l, tt))))
+    record { inside = omega arith; kept = omega arith; counted = omega arith; sound = sound_after s.rows.cells.now s.taken.cells.now s.len s.held (entries_of s.journal) es e s.inside s.kept s.counted s.sound c.in-Some.ensures c.move_block.new.self.cells.now c.copy_from.new.self.cells.now c.move_block.ensures.value c.copy_from.ensures.value l }
 
 pub returns-in-Some : goal.returns-in-Some
 returns-in-Some c =
     let s = c.args.self.now in
     let e = c.in-Some.newest in
-    let es = entries_of c.take-newest.new.self in
+    let es = entries_of c.take_newest.new.self in
     let older = pasts_of es (take (s.held - e.taken) s.taken.cells.now) in
     let n = newest s.taken.cells.now s.held es e in
-    let l : length c.copy-from.new.self.cells.now ≡ length s.rows.cells.now = c.copy-from.ensures.len ∙ c.move-block.ensures.len in
-    let r = rows_after s.rows.cells.now s.taken.cells.now s.len s.held (entries_of s.journal) es e s.inside s.kept s.counted s.sound c.in-Some.ensures c.move-block.new.self.cells.now c.copy-from.new.self.cells.now c.move-block.ensures.value c.copy-from.ensures.value in
-    let w = pasts_were s.rows.cells.now s.taken.cells.now s.len s.held (entries_of s.journal) es e s.inside s.kept s.counted s.sound c.in-Some.ensures c.move-block.new.self.cells.now c.copy-from.new.self.cells.now c.move-block.ensures.value c.copy-from.ensures.value in
+    let l : length c.copy_from.new.self.cells.now ≡ length s.rows.cells.now = c.copy_from.ensures.len ∙ c.move_block.ensures.len in
+    let r = rows_after s.rows.cells.now s.taken.cells.now s.len s.held (entries_of s.journal) es e s.inside s.kept s.counted s.sound c.in-Some.ensures c.move_block.new.self.cells.now c.copy_from.new.self.cells.now c.move_block.ensures.value c.copy_from.ensures.value in
+    let w = pasts_were s.rows.cells.now s.taken.cells.now s.len s.held (entries_of s.journal) es e s.inside s.kept s.counted s.sound c.in-Some.ensures c.move_block.new.self.cells.now c.copy_from.new.self.cells.now c.move_block.ensures.value c.copy_from.ensures.value in
     record {
       undone = record {
-        answer = undo_accepted (state_of s) (view s).journal n older (open_by s.header c.if-is-none.ensures) w;
+        answer = undo_accepted (state_of s) (view s).journal n older (open_by s.header c.if-is_none.ensures) w;
         after = record {
           newest = n;
           older = older;
           was = w;
-          state = λ i. record { room = l i; hold = length s.taken.cells.now; header = s.header; rows = r i; changes = c.saturating-add-self.ensures i };
+          state = λ i. record { room = l i; hold = length s.taken.cells.now; header = s.header; rows = r i; changes = c.saturating_add-self.ensures i };
           journal = refl;
         };
       };

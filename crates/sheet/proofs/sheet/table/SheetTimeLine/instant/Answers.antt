@@ -4,10 +4,10 @@ use Rattle.tables.proofs.Places.{place_map, place_map_err}
 use Rattle.sheet.specs.Sheets.{rows_of}
 use Rattle.sheet.proofs.sheet.table.SheetTimeLine.instant.Goals as goal
 
-pub returns-in-err-row : goal.returns-in-err-row
-returns-in-err-row c =
-    let p = err_from_is_err_and c.from-residual.result c.from-residual.ensures.1 in
-    rw (p.1, p.2) (place_map_err time_of (rows_of c.args.self.now) c.args.i _ c.in-err-row.ensures)
+pub returns-in_err-row : goal.returns-in_err-row
+returns-in_err-row c =
+    let p = err_from_is_err_and c.from_residual.result c.from_residual.ensures.1 in
+    rw (p.1, p.2) (place_map_err time_of (rows_of c.args.self.now) c.args.i _ c.in_err-row.ensures)
 
 pub returns : goal.returns
-returns c = place_map time_of (rows_of c.args.self.now) c.args.i _ c.in-ok-row.ensures
+returns c = place_map time_of (rows_of c.args.self.now) c.args.i _ c.in_ok-row.ensures
