@@ -13,7 +13,7 @@ abbrev pub after_opening : View → Result Contents Refusal → View
 after_opening v (Ok c) = record { state = with_file v.state c; journal = [] }
 after_opening v (Err e) = v
 
-pub record Opened (v : View) (file : List ℕ) (a : Answer) (w : View) : Type 0 where
+pub record FileOpened (v : View) (file : List ℕ) (a : Answer) (w : View) : Type 0 where
   pub answer : a ≡ open_answer v.state file
   pub after : w ≡ after_opening v (opened_from v.state.room file)
 

@@ -1,9 +1,11 @@
 -- What is seen of a sheet, and what of it a refused call leaves.
-use Rattle.std.specs.Prelude.{◌≡◌, List, length, take, OnErr}
+use Rattle.std.specs.Prelude.{◌≡◌, List, [], length, take, Some, Ok, Err, Result, OnErr}
+use Rattle.refusal.specs.declared.Refusal.{Refusal}
 use Rattle.model.specs.declared.Row.{Row}
 use Rattle.journal.specs.Journals.{entries_of}
 use Rattle.edits.specs.Checks.{Answer}
 use Rattle.sheet.specs.declared.sheet.Sheet.{Sheet}
+use Rattle.sheet.specs.Openings.{Contents}
 use Rattle.sheet.specs.Sound.{pasts_of}
 use Rattle.sheet.specs.States.{State, View}
 
@@ -28,12 +30,25 @@ view s = record { state = state_of s; journal = pasts_of (entries_of s.journal) 
 pub record Unchanged (s t : Sheet) : Type 0 where
   pub header : t.header ≡ s.header
   pub len : t.len ≡ s.len
-  pub held : t.held ≡ s.held
   pub journal : t.journal ≡ s.journal
   pub changes : t.changes ≡ s.changes
   pub rows : row_memory t ≡ row_memory s
   pub taken : taken_memory t ≡ taken_memory s
 
--- a refused call changes nothing
+-- the sheet holds a file's contents, with an empty journal and no changes, in memory as large as before
+pub record Holds (c : Contents) (s t : Sheet) : Type 0 where
+  pub header : t.header ≡ Some c.header
+  pub rows : rows_of t ≡ c.rows
+  pub journal : entries_of t.journal ≡ []
+  pub changes : t.changes ≡ 0
+  pub room : length (row_memory t) ≡ length (row_memory s)
+  pub taken : taken_memory t ≡ taken_memory s
+
+-- what an opening answers, and what it leaves
+abbrev pub Opened : Result (Unit {0}) Refusal → Result Contents Refusal → Sheet → Sheet → Type 0
+Opened (Ok u) told s t = (c : Contents) × (told ≡ Ok c) × Holds c s t
+Opened (Err e) told s t = (told ≡ Err e) × Unchanged s t
+
+-- a refused call changes nothing; as many of the rows taken out are kept
 abbrev pub KeptIfRefused : Answer → Sheet → Sheet → Type 0
-KeptIfRefused a s t = OnErr a (Unchanged s t)
+KeptIfRefused a s t = OnErr a (Unchanged s t × (t.held ≡ s.held))

@@ -1,4 +1,5 @@
 ghost use Rattle.std.specs.Prelude.{◌≡◌, ◌≤◌, true, length, take};
+ghost use Rattle.tables.specs.Lines.{ascends};
 ghost use Rattle.journal.specs.Journals.{entries_of, taken_by};
 ghost use Rattle.sheet.specs.Sound.{is_sound, pasts_of};
 
@@ -30,6 +31,8 @@ pub struct Sheet<'m> {
     /// How many edits and undos were accepted since the opening.
     changes: u32,
     ghost inside: { len ≤ length rows.cells.now },
+    ghost few: { len ≤ 8192 },
+    ghost up: { ascends (take len rows.cells.now) ≡ true },
     ghost kept: { held ≤ length taken.cells.now },
     ghost counted: { held ≡ taken_by (entries_of journal) },
     ghost sound: { is_sound (length rows.cells.now) (take len rows.cells.now) (pasts_of (entries_of journal) (take held taken.cells.now)) ≡ true },

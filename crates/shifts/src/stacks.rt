@@ -69,7 +69,7 @@ pub fn window_under_three<T: PredictionTable>(
     ensures answer { result ≡ window_under (high ∷ (middle ∷ (low ∷ []))) (T.PredictionTable.rows t.now) day micros }
     ensures law { all_accepted (high ∷ (middle ∷ (low ∷ []))) (T.PredictionTable.rows t.now) ≡ true → AnswersAsBelow (sum_of (high ∷ (middle ∷ (low ∷ [])))) (T.PredictionTable.rows t.now) day micros result }
 {
-    let mut shifted = Shifted::new(t);
-    shifted.set_shift(low)?;
-    window_under_two(&shifted, middle, high, day, micros)
+    let mut lowest = Shifted::new(t);
+    lowest.set_shift(low)?;
+    window_under_two(&lowest, middle, high, day, micros)
 }

@@ -1,14 +1,17 @@
 //! The calls of a sheet that make, open, read and close it.
-ghost use Rattle.std.specs.Prelude.{◌≡◌, length};
+ghost use Rattle.std.specs.Prelude.{◌≡◌, [], length, None};
 ghost use Rattle.cells.specs.Cells.{count_in};
 ghost use Rattle.tables.specs.Lines.{place};
 ghost use Rattle.closed_sheet.specs.Answers.{cells_answer, header_answer, file_answer, after_file};
+ghost use Rattle.journal.specs.Journals.{entries_of};
 ghost use Rattle.sheet.specs.States.{empty_view};
-ghost use Rattle.sheet.specs.Calls.{Opened};
-ghost use Rattle.sheet.specs.Sheets.{rows_of, row_memory, taken_memory, view, KeptIfRefused};
+ghost use Rattle.sheet.specs.Calls.{FileOpened};
+ghost use Rattle.sheet.specs.Openings.{opened_from};
+ghost use Rattle.sheet.specs.Sheets.{rows_of, row_memory, taken_memory, Opened, view, KeptIfRefused};
 
 use crate::sheet::{MOST_ROWS, Sheet};
 use cells::summary::Cells;
+use cells::summary::running::cells_of;
 use closed_sheet::closed::ClosedSheet;
 use journal::journal::Journal;
 use memory::lent::{Lent, load_rows};
@@ -18,6 +21,7 @@ use reading::scan::Scan;
 use reading::stage::Part;
 use reading::text::scan_text;
 use refusal::Refusal;
+use writing::file::write_file;
 
 /// How many rows a text has, by its scan.
 fn row_count(scan: &Scan) -> usize
@@ -32,7 +36,8 @@ fn row_count(scan: &Scan) -> usize
 impl<'m> Sheet<'m> {
     /// An empty sheet, with no file open, over memory for rows and for rows taken out.
     pub fn new(rows: &'m mut [Row], taken: &'m mut [Row]) -> Sheet<'m>
-        ensures empty { view result ≡ empty_view (length rows.old) (length taken.old) }
+        ensures empty { (rows_of result ≡ []) × (result.header ≡ None) × (entries_of result.journal ≡ []) × (result.changes ≡ 0) }
+        ensures made { view result ≡ empty_view (length rows.old) (length taken.old) }
         ensures memory { (row_memory result ≡ rows.old) × (taken_memory result ≡ taken.old) }
         ensures lent { (result.rows.cells.ghost_name ≡ rows.entry.ghost_name) × (result.taken.cells.ghost_name ≡ taken.entry.ghost_name) }
     {
@@ -50,7 +55,8 @@ impl<'m> Sheet<'m> {
     /// Opens a file in place of what was open, and empties the journal. The whole file is checked before a row is stored: a refusal changes
     /// nothing.
     pub fn open(&mut self, file: &[u8]) -> Result<(), Refusal>
-        ensures opened { Opened (view self.old) file.now result (view self.new) }
+        ensures holds { Opened result (opened_from (length (row_memory self.old)) file.now) self.old self.new }
+        ensures opened { FileOpened (view self.old) file.now result (view self.new) }
         ensures refused { KeptIfRefused result self.old self.new }
     {
         let room = self.rows.len().min(MOST_ROWS);
@@ -65,33 +71,39 @@ impl<'m> Sheet<'m> {
         Ok(())
     }
 
-    /// The sheet as a closed one, for reading.
-    fn reading(&self) -> ClosedSheet<'_>
-        ensures header { result.header ≡ self.now.header }
-        ensures rows { result.rows.now ≡ rows_of self.now }
-    {
-        ClosedSheet::new(self.header, self.rows.first(self.len))
-    }
-
     /// The row count, start, end and interval, which follow from the rows; 24 when no file is open.
     pub fn cells(&self) -> Result<Cells, Refusal>
         ensures { result ≡ cells_answer self.now.header (rows_of self.now) }
     {
-        self.reading().cells()
+        if self.header.is_none() {
+            return Err(Refusal::NoFileOpen);
+        }
+        match cells_of(self.rows.first(self.len)) {
+            Some(cells) => Ok(cells),
+            None => Err(Refusal::NoFileOpen),
+        }
     }
 
     /// The header; 24 when no file is open.
     pub fn header(&self) -> Result<Header, Refusal>
         ensures { result ≡ header_answer self.now.header }
     {
-        self.reading().header()
+        match self.header {
+            Some(header) => Ok(header),
+            None => Err(Refusal::NoFileOpen),
+        }
     }
 
     /// The row of a number counted from 0; 28 where there is none.
     pub fn row(&self, i: usize) -> Result<Row, Refusal>
         ensures { result ≡ place (rows_of self.now) i }
     {
-        self.reading().row(i)
+        let rows = self.rows.first(self.len);
+        if i < rows.len() {
+            Ok(rows[i])
+        } else {
+            Err(Refusal::NoSuchNumber)
+        }
     }
 
     /// Writes the canonical file at the start of the output, and answers its length. Refusals: 24, 33, which leave the output as it
@@ -100,7 +112,10 @@ impl<'m> Sheet<'m> {
         ensures answer { result ≡ file_answer self.now.header (rows_of self.now) out.old }
         ensures after { out.new ≡ after_file self.now.header (rows_of self.now) out.old }
     {
-        self.reading().write(out)
+        match self.header {
+            Some(header) => write_file(&header, self.rows.first(self.len), out),
+            None => Err(Refusal::NoFileOpen),
+        }
     }
 
     /// Closes the sheet: it is used up, and what is left is its header and rows, for reading.

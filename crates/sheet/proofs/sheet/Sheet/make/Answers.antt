@@ -1,6 +1,8 @@
-use Rattle.std.proofs.Common.{◌≡◌, ◌+◌, ◌-◌, ◌≤◌, length, ap, ◌∙◌, subst, arith, length-take}
+use Rattle.std.proofs.Common.{◌≡◌, ◌+◌, ◌-◌, ◌≤◌, length, take, ap, ◌∙◌, subst, arith, length-take}
 use Rattle.reading.specs.Stores.{rows_in}
 use Rattle.journal.specs.Journals.{entries_of, Fitting}
+use Rattle.sheet.specs.Sound.{pasts_of}
+use Rattle.sheet.proofs.SoundLaws.{rows_ascend, len_few}
 use Rattle.sheet.proofs.ChangeLaws.{numbers, keeps, pasts_after, counted_after, rows_after, sound_after}
 use Rattle.sheet.proofs.sheet.Sheet.make.Goals as goal
 
@@ -32,7 +34,21 @@ invariant_of-self c =
     let order = m.order in
     let within = m.within in
     let size = m.size in
-    let room = m.room in record { inside = omega arith; kept = omega arith; counted = counted_after s.rows.cells.now s.taken.cells.now s.len s.held es s.inside s.kept s.counted c.args.edit c.args.place block ready k n g c.move_block.new.self.cells.now c.copy_from.new.self.cells.now c.move_block.ensures.value c.copy_from.ensures.value (entries_of c.add.new.self) c.add.ensures; sound = sound_after s.rows.cells.now s.taken.cells.now s.len s.held es s.inside s.kept s.counted c.args.edit c.args.place block ready k n g c.move_block.new.self.cells.now c.copy_from.new.self.cells.now c.move_block.ensures.value c.copy_from.ensures.value (entries_of c.add.new.self) c.add.ensures c.move_block-2.new.self.cells.now c.load_rows.new.memory.cells.now c.move_block-2.ensures.value c.load_rows.ensures.value l s.sound }
+    let room = m.room in
+    let place = c.args.place in
+    let u = c.load_rows.new.memory.cells.now in
+    let len = s.len - (place.end - place.first) + place.put in
+    let ps = pasts_of (entries_of c.add.new.self) (take (n + (place.end - place.first)) c.copy_from.new.self.cells.now) in
+    let inside : len ≤ length u = omega arith in
+    let sound = sound_after s.rows.cells.now s.taken.cells.now s.len s.held es s.inside s.kept s.counted c.args.edit c.args.place block ready k n g c.move_block.new.self.cells.now c.copy_from.new.self.cells.now c.move_block.ensures.value c.copy_from.ensures.value (entries_of c.add.new.self) c.add.ensures c.move_block-2.new.self.cells.now u c.move_block-2.ensures.value c.load_rows.ensures.value l s.sound in
+    record {
+      inside = inside;
+      few = len_few (length u) len u ps inside sound;
+      up = rows_ascend (length u) (take len u) ps sound;
+      kept = omega arith;
+      counted = counted_after s.rows.cells.now s.taken.cells.now s.len s.held es s.inside s.kept s.counted c.args.edit c.args.place block ready k n g c.move_block.new.self.cells.now c.copy_from.new.self.cells.now c.move_block.ensures.value c.copy_from.ensures.value (entries_of c.add.new.self) c.add.ensures;
+      sound = sound;
+    }
 
 pub returns : goal.returns
 returns c =

@@ -1,11 +1,13 @@
 use Rattle.std.proofs.Common.{◌≡◌, ◌+◌, ◌≤◌, min, true, length, take, Some, Ok, sym, refl, ap, ◌∙◌, arith}
+use Rattle.std.proofs.lemmas.Bool.{and_parts}
 use Rattle.cells.specs.Cells.{count_in}
 use Rattle.cells.proofs.CellLaws.{count_summary}
 use Rattle.reading.specs.declared.stage.Part.TheVariants.{File}
 use Rattle.reading.specs.Texts.{scan_of}
 use Rattle.reading.specs.Stores.{rows_in}
 use Rattle.reading.proofs.TrackLaws.{tracks_text}
-use Rattle.edits.specs.Checks.{in_order}
+use Rattle.tables.specs.Lines.{ascends}
+use Rattle.edits.specs.Checks.{in_order, flags_stay}
 use Rattle.edits.proofs.OrderLaws.{text_in_order}
 use Rattle.journal.specs.Journals.{entries_of, taken_by}
 use Rattle.sheet.specs.Openings.{Contents, contents_by, opened_from}
@@ -56,6 +58,9 @@ invariant_of-self c =
     let room = f.room in
     let len = c.load_rows.ensures.len in record {
       inside = omega arith;
+      few = omega arith;
+      up = ap ascends (rows_open s.rows.cells.now (rows_in c.args.file.now) c.row_count-count.result c.load_rows.new.memory.cells.now n room c.load_rows.ensures.value)
+          ∙ (and_parts (ascends (rows_in c.args.file.now)) (flags_stay (rows_in c.args.file.now)) f.order).0;
       kept = omega arith;
       counted = sym (ap taken_by c.new-self.ensures);
       sound = sound_open s.rows.cells.now (rows_in c.args.file.now) c.row_count-count.result c.load_rows.new.memory.cells.now n room c.load_rows.ensures.value
@@ -71,6 +76,11 @@ returns c =
     let r = rows_open s.rows.cells.now (rows_in file) c.row_count-count.result c.load_rows.new.memory.cells.now n f.room c.load_rows.ensures.value in
     let j = ap (λ z. pasts_of z (take 0 s.taken.cells.now)) c.new-self.ensures in
     record {
+      holds = (
+        record { header = c.in_ok-scan.scan.header; rows = rows_in file },
+        f.told,
+        record { header = refl; rows = r; journal = c.new-self.ensures; changes = refl; room = c.load_rows.ensures.len; taken = refl },
+      );
       opened = record {
         answer = sym (ap accepted f.told);
         after =

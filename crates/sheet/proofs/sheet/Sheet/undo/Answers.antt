@@ -2,6 +2,7 @@ use Rattle.std.proofs.Common.{◌≡◌, ◌+◌, ◌-◌, ◌≤◌, length, ta
 use Rattle.journal.specs.Journals.{entries_of}
 use Rattle.sheet.specs.Sound.{pasts_of}
 use Rattle.sheet.specs.Sheets.{view, state_of}
+use Rattle.sheet.proofs.SoundLaws.{rows_ascend, len_few}
 use Rattle.sheet.proofs.UndoLaws.{newest, numbers, rows_after, sound_after, pasts_were}
 use Rattle.sheet.proofs.AnswerLaws.{undo_accepted, open_by}
 use Rattle.sheet.proofs.sheet.Sheet.undo.Goals as goal
@@ -39,7 +40,19 @@ invariant_of-self-in-Some c =
     let sum = m.held_sum in
     let rows = m.in_rows in
     let fits = m.fits in
-    record { inside = omega arith; kept = omega arith; counted = omega arith; sound = sound_after s.rows.cells.now s.taken.cells.now s.len s.held (entries_of s.journal) es e s.inside s.kept s.counted s.sound c.in-Some.ensures c.move_block.new.self.cells.now c.copy_from.new.self.cells.now c.move_block.ensures.value c.copy_from.ensures.value l }
+    let u = c.copy_from.new.self.cells.now in
+    let len = s.len - e.put + e.taken in
+    let ps = pasts_of es (take (s.held - e.taken) s.taken.cells.now) in
+    let inside : len ≤ length u = omega arith in
+    let sound = sound_after s.rows.cells.now s.taken.cells.now s.len s.held (entries_of s.journal) es e s.inside s.kept s.counted s.sound c.in-Some.ensures c.move_block.new.self.cells.now u c.move_block.ensures.value c.copy_from.ensures.value l in
+    record {
+      inside = inside;
+      few = len_few (length u) len u ps inside sound;
+      up = rows_ascend (length u) (take len u) ps sound;
+      kept = omega arith;
+      counted = omega arith;
+      sound = sound;
+    }
 
 pub returns-in-Some : goal.returns-in-Some
 returns-in-Some c =
