@@ -7,7 +7,7 @@ use Rattle.tables.specs.Windows.{window_if}
 use Rattle.edits.specs.Checks.{Answer}
 use Rattle.closed_sheet.specs.Answers.{cells_answer, file_answer, after_file}
 use Rattle.sheet.specs.States.{State, View, entries_in, empty_view}
-use Rattle.sheet.specs.Calls.{Opened, Undone}
+use Rattle.sheet.specs.Calls.{FileOpened, Undone}
 use Rattle.runs.specs.Plain.{Before, Plain, Call, opens, pastes, cuts, undoes, plain_entries, empty_plain, plain_after, plain_answers}
 use Rattle.runs.specs.Runs.{Run}
 
@@ -46,7 +46,7 @@ abbrev pub ReopeningAgrees : Type 0
 ReopeningAgrees =
     (room hold : ℕ) (cs : List Call) (answers : List Answer) (v : View) → Run (empty_view room hold) cs answers v
     → (h : Header) → v.state.header ≡ Some h
-    → (a : Answer) (w : View) → Opened (empty_view room hold) (canonical h v.state.rows) a w → (a ≡ Ok tt) × AgreeFrom v w
+    → (a : Answer) (w : View) → FileOpened (empty_view room hold) (canonical h v.state.rows) a w → (a ≡ Ok tt) × AgreeFrom v w
 
 -- THE PLAIN SHEET AGREES
 

@@ -2,12 +2,12 @@
 use Rattle.std.specs.Prelude.{List, [], ◌∷◌}
 use Rattle.edits.specs.Checks.{Answer}
 use Rattle.sheet.specs.States.{View}
-use Rattle.sheet.specs.Calls.{Opened, Pasted, CutOut, Undone}
+use Rattle.sheet.specs.Calls.{FileOpened, Pasted, CutOut, Undone}
 use Rattle.runs.specs.Plain.{Call, opens, pastes, cuts, undoes}
 
 -- one call of a sheet
 abbrev pub Step : View → Call → Answer → View → Type 0
-Step v (opens file) a w = Opened v file a w
+Step v (opens file) a w = FileOpened v file a w
 Step v (pastes block) a w = Pasted v block a w
 Step v (cuts day micros end_day end_micros) a w = CutOut v day micros end_day end_micros a w
 Step v undoes a w = Undone v a w

@@ -9,6 +9,6 @@ returns c =
     let input = c.args.input.now in
     let told = subst (λ n. opened_from n input ≡ Ok a.contents) (ap length c.new-sheet.ensures.memory.0) a.opened in
     record {
-      answer = answer_is _ input _ a.contents _ _ c.if-input-gt-LONGEST-INPUT.false told (ap (λ v. v.state.header) a.holds) (ap (λ v. v.state.rows) a.holds) _ c.write.ensures.answer;
-      output = output_is _ input _ a.contents _ _ c.if-input-gt-LONGEST-INPUT.false told (ap (λ v. v.state.header) a.holds) (ap (λ v. v.state.rows) a.holds) _ c.write.ensures.after;
+      answer = answer_is _ input _ a.contents _ _ c.if-input-gt-LONGEST-INPUT.false told a.holds.header a.holds.rows _ c.write.ensures.answer;
+      output = output_is _ input _ a.contents _ _ c.if-input-gt-LONGEST-INPUT.false told a.holds.header a.holds.rows _ c.write.ensures.after;
     }
