@@ -5,10 +5,10 @@ use Rattle.rewrite.proofs.rewriting.rewrite.Goals as goal
 
 pub returns : goal.returns
 returns c =
-    let a = c.in-ok-open-file.ensures in
+    let a = c.in_ok-open_file.ensures in
     let input = c.args.input.now in
     let told = subst (λ n. opened_from n input ≡ Ok a.contents) (ap length c.new-sheet.ensures.memory.0) a.opened in
     record {
-      answer = answer_is _ input _ a.contents _ _ c.if-input-gt-LONGEST-INPUT.false told a.holds.header a.holds.rows _ c.write.ensures.answer;
-      output = output_is _ input _ a.contents _ _ c.if-input-gt-LONGEST-INPUT.false told a.holds.header a.holds.rows _ c.write.ensures.after;
+      answer = answer_is _ input _ a.contents _ _ c.if-input-gt-LONGEST_INPUT.false told a.holds.header a.holds.rows _ c.write.ensures.answer;
+      output = output_is _ input _ a.contents _ _ c.if-input-gt-LONGEST_INPUT.false told a.holds.header a.holds.rows _ c.write.ensures.after;
     }
