@@ -6,10 +6,10 @@ pub returns-in-Ok : goal.returns-in-Ok
 returns-in-Ok c =
     let ok = c.in-Ok.ensures in
     record {
-      text = by_answer _ _ _ _ c.in-Ok.line ok.gives ok.at;
+      text = by_answer _ _ _ _ _ ok.gives ok.at;
       file = ok.file;
-      line = counts_answer _ _ c.in-Ok.line ok.line;
-      further = moves_answer _ _ c.in-Ok.line ok.at;
+      line = counts_answer _ _ _ ok.line;
+      further = moves_answer _ _ _ ok.at;
     }
 
 pub returns-in-Err : goal.returns-in-Err
