@@ -21,10 +21,6 @@ pub first_by : (s : Summary) (rs : List Row) → (extended_by s rs).first ≡ s.
 first_by s [] = refl
 first_by s (r ∷ rs) = first_by (extended s r) rs
 
-pub first_flag_by : (s : Summary) (rs : List Row) → (extended_by s rs).first_flag ≡ s.first_flag
-first_flag_by s [] = refl
-first_flag_by s (r ∷ rs) = first_flag_by (extended s r) rs
-
 pub last_by : (s : Summary) (rs : List Row) → (extended_by s rs).last ≡ last_of s.last rs
 last_by s [] = refl
 last_by s (r ∷ rs) = last_by (extended s r) rs

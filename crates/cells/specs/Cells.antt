@@ -42,13 +42,13 @@ cells_if (r ∷ rs) = Some (cells_of r rs)
 
 -- the same, row by row
 abbrev pub started : Row → Summary
-started r = record { count = 1; first = r.at; first_flag = r.flag; last = r.at; flag = r.flag; interval = 0 }
+started r = record { count = 1; first = r.at; last = r.at; flag = r.flag; interval = 0 }
 
 abbrev pub next_interval : ℕ → ℕ → ℕ → ℕ
 next_interval count interval step = cond (count == 1 || interval == step) step 0
 
 abbrev pub extended : Summary → Row → Summary
-extended s r = record { count = s.count + 1; first = s.first; first_flag = s.first_flag; last = r.at; flag = r.flag; interval = next_interval s.count s.interval (step_seconds s.last r.at) }
+extended s r = record { count = s.count + 1; first = s.first; last = r.at; flag = r.flag; interval = next_interval s.count s.interval (step_seconds s.last r.at) }
 
 abbrev pub extended_by : Summary → List Row → Summary
 extended_by s [] = s

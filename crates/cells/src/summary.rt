@@ -27,9 +27,7 @@ pub struct Cells {
 pub struct Summary {
     pub count: usize,
     pub first: Instant,
-    pub first_flag: LeapFlag,
     pub last: Instant,
-    /// The leap flag of the last row.
     pub flag: LeapFlag,
     pub interval: u32,
 }

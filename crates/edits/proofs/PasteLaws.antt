@@ -10,12 +10,12 @@ use Rattle.model.specs.Flags.{allows}
 use Rattle.cells.specs.declared.summary.Summary.{Summary}
 use Rattle.cells.specs.Cells.{extended_by, summary_if}
 use Rattle.cells.specs.Cells as cells
-use Rattle.cells.proofs.CellLaws.{count_by, first_by, first_flag_by, last_by}
+use Rattle.cells.proofs.CellLaws.{count_by, first_by, last_by}
 use Rattle.tables.specs.Lines.{time_of, not_after, earlier, ascends}
 use Rattle.reading.specs.declared.scan.Scan.{Scan}
 use Rattle.reading.specs.declared.stage.Part.TheVariants.{Block}
 use Rattle.reading.specs.Texts.{scan_of}
-use Rattle.reading.specs.Stores.{rows_in}
+use Rattle.reading.specs.Stores.{rows_in, first_flag_of}
 use Rattle.reading.proofs.TrackLaws.{tracks_text}
 use Rattle.journal.specs.declared.journal.Edit.TheVariants.{Paste}
 use Rattle.edits.specs.declared.place.Place.{Place}
@@ -55,12 +55,17 @@ pub record Summed (block : List Row) (m : Summary) : Type 0 where
   pub first : first_moment block ≡ moment m.first
   pub last : last_moment block ≡ moment m.last
   pub count : length block ≡ m.count
-  pub before_is : (xs ys : List Row) → seam xs (block ++ ys) ≡ last_allows xs m.first_flag
   pub after_is : (ys : List Row) → seam block ys ≡ allows_first m.flag ys
 
 seam_first : (xs : List Row) (b : Row) (bs : List Row) → seam xs (b ∷ bs) ≡ last_allows xs b.flag
 seam_first [] b bs = refl
 seam_first (x ∷ xs) b bs = refl
+
+seam_flag : (xs block ys : List Row) (f : LeapFlag) → first_flag_of block ≡ Some f → seam xs (block ++ ys) ≡ last_allows xs f
+seam_flag xs [] ys f e = never (cc)
+seam_flag xs (b ∷ bs) ys f e =
+    let g : b.flag ≡ f = cc in
+    seam_first xs b (bs ++ ys) ∙ ap (last_allows xs) g
 
 seam_last : (b : Row) (bs ys : List Row) (f : LeapFlag) → (last_row b bs).flag ≡ f → seam (b ∷ bs) ys ≡ allows_first f ys
 seam_last b bs [] f e = refl
@@ -76,7 +81,6 @@ summed (b ∷ bs) m e =
       first = ap moment (sym (first_by (cells.started b) bs));
       last = ap moment (sym (last_by (cells.started b) bs));
       count = let n = count_by (cells.started b) bs in omega arith;
-      before_is = λ xs ys. seam_first xs b (bs ++ ys) ∙ ap (last_allows xs) (sym (first_flag_by (cells.started b) bs));
       after_is = λ ys. seam_last b bs ys (extended_by (cells.started b) bs).flag (sym (flag_by (cells.started b) b bs refl));
     })
 
@@ -91,6 +95,13 @@ no_summary text u told e = by (rows_in text) refl
         let s : Some (extended_by (cells.started b) bs) ≡ None = ap summary_if q ∙ sym t ∙ e in
         let z : ◌≡◌ {A = ℕ} 0 1 = cc in
         omega arith
+
+pub no_first_flag : (text : List ℕ) (u : Scan) → scan_of Block None text ≡ Ok u → first_flag_of (rows_in text) ≡ None → ⊥
+no_first_flag text u told e = by (rows_in text) (block_told text u told).some e
+  where
+    by : (block : List Row) → none block ≡ false → first_flag_of block ≡ None → ⊥
+    by [] s q = never (cc)
+    by (b ∷ bs) s q = never (cc)
 
 module _ (room hold : ℕ) (rows : List Row) (text : List ℕ) (u : Scan) (told : Ok u ≡ scan_of Block None text) (m : Summary) (has : u.summary ≡ Some m) (order : in_order rows ≡ true) where
   abbrev block : List Row
@@ -136,36 +147,36 @@ module _ (room hold : ℕ) (rows : List Row) (text : List ℕ) (u : Scan) (told 
         checks ∙ refused_by ((differ (moving block) (moving rows), VelocitiesDiffer) ∷ []) (ltb (min room 8192) (length c.rows)) (TooManyRows 0)
         ((not (flags_stay c.rows), FlagChanges 0) ∷ (ltb hold (length c.out), TakenRowsExceed) ∷ []) (same_velocities, tt) (lt-ltb (min room 8192) (length c.rows) (omega arith))
 
-    -- the flags of the whole result stay where they do at its two joints
-    flags_are : flags_stay c.rows ≡ (last_allows (take p.first rows) m.first_flag && allows_first m.flag (drop p.end rows))
-    flags_are =
-        let front = take p.first rows in
-        let back = drop p.end rows in
-        let flags = (and_parts (ascends rows) (flags_stay rows) order).1 in
-        let own = (and_parts (ascends block) (flags_stay block) block_in_order).1 in
-        ap (λ (d : Change). flags_stay d.rows) at_place.same
-        ∙ flags_append front (block ++ back)
-        ∙ rw (flags_take p.first rows flags, flags_append block back, own, flags_drop p.end rows flags, sums.before_is front back, sums.after_is back)
-        (and_true (last_allows front m.first_flag) (allows_first m.flag back))
-      where
-        and_true : (a b : Bool) → (a && (b && true)) ≡ (a && b)
-        and_true true true = refl
-        and_true true false = refl
-        and_true false b = refl
-
-    module _ (fit : length rows - (p.end - p.first) + m.count ≤ min room 8192) where
+    module _ (fit : length rows - (p.end - p.first) + m.count ≤ min room 8192) (f : LeapFlag) (opens : first_flag_of block ≡ Some f) where
       in_room : ltb (min room 8192) (length c.rows) ≡ false
       in_room = let z = size_is in le-ltb (min room 8192) (length c.rows) (omega arith)
+
+      -- the flags of the whole result stay where they do at its two joints
+      flags_are : flags_stay c.rows ≡ (last_allows (take p.first rows) f && allows_first m.flag (drop p.end rows))
+      flags_are =
+          let front = take p.first rows in
+          let back = drop p.end rows in
+          let flags = (and_parts (ascends rows) (flags_stay rows) order).1 in
+          let own = (and_parts (ascends block) (flags_stay block) block_in_order).1 in
+          ap (λ (d : Change). flags_stay d.rows) at_place.same
+          ∙ flags_append front (block ++ back)
+          ∙ rw (flags_take p.first rows flags, flags_append block back, own, flags_drop p.end rows flags, seam_flag front block back f opens, sums.after_is back)
+          (and_true (last_allows front f) (allows_first m.flag back))
+        where
+          and_true : (a b : Bool) → (a && (b && true)) ≡ (a && b)
+          and_true true true = refl
+          and_true true false = refl
+          and_true false b = refl
 
       flags_refused : flags_stay c.rows ≡ false → paste_checks room hold rows text ≡ Err (FlagChanges 0)
       flags_refused h =
           checks ∙ refused_by ((differ (moving block) (moving rows), VelocitiesDiffer) ∷ (ltb (min room 8192) (length c.rows), TooManyRows 0) ∷ []) (not (flags_stay c.rows)) (FlagChanges 0)
           ((ltb hold (length c.out), TakenRowsExceed) ∷ []) (same_velocities, (in_room, tt)) (ap not h)
 
-      pub first_flag : last_allows (take p.first rows) m.first_flag ≡ false → paste_checks room hold rows text ≡ Err (FlagChanges 0)
+      pub first_flag : last_allows (take p.first rows) f ≡ false → paste_checks room hold rows text ≡ Err (FlagChanges 0)
       first_flag h = flags_refused (flags_are ∙ rw h)
 
-      module _ (before-allows : last_allows (take p.first rows) m.first_flag ≡ true) where
+      module _ (before-allows : last_allows (take p.first rows) f ≡ true) where
         pub last_flag : allows_first m.flag (drop p.end rows) ≡ false → paste_checks room hold rows text ≡ Err (FlagChanges 0)
         last_flag h = flags_refused (flags_are ∙ rw (before-allows, h))
 

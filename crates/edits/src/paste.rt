@@ -10,6 +10,7 @@ use crate::flags::{allows_first, last_allows};
 use crate::place::{Place, find};
 use model::Row;
 use reading::stage::{Part, Stage};
+use reading::store::first_flag;
 use reading::text::scan_text;
 use refusal::Refusal;
 
@@ -47,7 +48,10 @@ pub fn place_paste(rows: &[Row], room: usize, hold: usize, block: &[u8]) -> Resu
     if (rows.len() - taken).saturating_add(summary.count) > room.min(MOST_ROWS) {
         return Err(Refusal::TooManyRows { line: 0 });
     }
-    if !last_allows(rows, place.first, summary.first_flag) {
+    let Some(flag) = first_flag(block) else {
+        unreachable()
+    };
+    if !last_allows(rows, place.first, flag) {
         return Err(Refusal::FlagChanges { line: 0 });
     }
     if !allows_first(summary.flag, rows, place.end) {

@@ -1,11 +1,12 @@
-use Rattle.std.proofs.Common.{◌≡◌, ℕ, zero, suc, ◌+◌, ◌-◌, ◌<◌, ◌≤◌, List, [], ◌∷◌, ◌++◌, length, get_or, take, drop, set, sym, refl, ap, ◌∙◌, arith}
+use Rattle.std.proofs.Common.{◌≡◌, ℕ, zero, suc, ◌+◌, ◌-◌, ◌<◌, ◌≤◌, List, [], ◌∷◌, ◌++◌, length, get_or, take, drop, set, Some, sym, refl, ap, ◌∙◌, arith}
 use Rattle.std.proofs.lemmas.List.{length-append, length-take-le}
+use Rattle.model.specs.declared.LeapFlag.{LeapFlag}
 use Rattle.model.specs.declared.Row.{Row}
 use Rattle.model.specs.declared.Vector.{Vector}
 use Rattle.lines.specs.Texts.{Text, on_line}
 use Rattle.reading.specs.declared.part.RowPart.{RowPart}
 use Rattle.reading.specs.declared.part.RowPart.TheVariants as parts
-use Rattle.reading.specs.Stores.{with_velocity, completed, with_part, part_of, rows_with, rows_on}
+use Rattle.reading.specs.Stores.{with_velocity, completed, with_part, part_of, rows_with, rows_on, first_flag_of}
 
 completed_last : (rs : List Row) (i : ℕ) (x : Row) (v : Vector) → i < length rs → x ≡ get_or rs i x → take (suc i) (set rs i (with_velocity x v)) ≡ completed (take (suc i) rs) v
 completed_last [] i x v h e = absurd (omega arith)
@@ -39,6 +40,18 @@ pub room_for : (rs : List Row) (n : ℕ) (r : Row) (p : RowPart) → p ≡ parts
 room_for rs n r p e h k =
     let a = ap (λ q. length (with_part (take n rs) q)) e in
     omega (arith, length-append (take n rs) (r ∷ []), length-take-le n rs h)
+
+flag_with : (rs : List Row) (p : RowPart) (f : LeapFlag) → first_flag_of rs ≡ Some f → first_flag_of (with_part rs p) ≡ Some f
+flag_with [] p f h = absurd (let z : ◌≡◌ {A = ℕ} 0 1 = cc in omega arith)
+flag_with (r ∷ rs) (parts.Position s) f h = h
+flag_with (r ∷ []) (parts.Velocity v) f h = h
+flag_with (r ∷ (s ∷ rs)) (parts.Velocity v) f h = h
+flag_with (r ∷ rs) parts.Nothing f h = h
+
+-- a first row keeps its flag, whatever lines follow
+pub flag_on : (n : ℕ) (ls : List (List ℕ)) (rs : List Row) (f : LeapFlag) → first_flag_of rs ≡ Some f → first_flag_of (rows_on n ls rs) ≡ Some f
+flag_on n [] rs f h = h
+flag_on n (l ∷ ls) rs f h = flag_on (n + 1) ls (rows_with (n + 1) rs l) f (flag_with rs (part_of (n + 1) l) f h)
 
 -- the text t comes after n lines with the rows rs; l is its first line, and u what follows
 module _ (t u : Text) (l : List ℕ) (n : ℕ) (rs : List Row) (is : t ≡ on_line l u) where

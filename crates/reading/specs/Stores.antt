@@ -1,5 +1,6 @@
 use Rattle.std.specs.Prelude.{ℕ, ◌+◌, List, [], ◌∷◌, ◌++◌, drop, Some, None, Ok, Err, Option, Result}
 use Rattle.refusal.specs.declared.Refusal.{Refusal}
+use Rattle.model.specs.declared.LeapFlag.{LeapFlag}
 use Rattle.model.specs.declared.Row.{Row}
 use Rattle.model.specs.declared.Vector.{Vector}
 use Rattle.lines.specs.Texts.{text_of}
@@ -66,3 +67,8 @@ rows_on n (l ∷ ls) rows = rows_on (n + 1) ls (rows_with (n + 1) rows l)
 -- the rows of a text
 abbrev pub rows_in : List ℕ → List Row
 rows_in bs = rows_on 0 (text_of bs).lines []
+
+-- the leap flag of the first of the rows; None where there is no row
+abbrev pub first_flag_of : List Row → Option LeapFlag
+first_flag_of [] = None
+first_flag_of (r ∷ rs) = Some r.flag

@@ -1,10 +1,10 @@
 //! The rows of a text that was checked, stored.
 ghost use Rattle.std.specs.Prelude.{◌≡◌, ◌≤◌, length, take};
-ghost use Rattle.reading.specs.Stores.{with_part, rows_in};
+ghost use Rattle.reading.specs.Stores.{with_part, rows_in, first_flag_of};
 
 use crate::part::RowPart;
 use lines::reader::Lines;
-use model::Row;
+use model::{LeapFlag, Row};
 
 /// Adds a part to the first `n` rows, and answers how many there are then. (Inner: there is room for them.)
 fn store_part(rows: &mut [Row], n: usize, part: RowPart) -> usize
@@ -42,4 +42,17 @@ pub fn store_rows(text: &[u8], rows: &mut [Row]) -> usize
         n = store_part(rows, n, RowPart::of(lines.number(), line));
     }
     n
+}
+
+/// The leap flag of the first row of a text, without storing a row; None where the text has no row.
+pub fn first_flag(text: &[u8]) -> Option<LeapFlag>
+    ensures { result ≡ first_flag_of (rows_in text.now) }
+{
+    let mut lines = Lines::new(text);
+    while let Some(line) = lines.next_line() {
+        if let RowPart::Position(row) = RowPart::of(lines.number(), line) {
+            return Some(row.flag);
+        }
+    }
+    None
 }

@@ -40,7 +40,6 @@ impl Summary {
         Summary {
             count: 1,
             first: row.at,
-            first_flag: row.flag,
             last: row.at,
             flag: row.flag,
             interval: 0,

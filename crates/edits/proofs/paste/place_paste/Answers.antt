@@ -1,5 +1,5 @@
 use Rattle.std.proofs.Common.{◌≡◌, ◌+◌, ◌-◌, ◌<◌, ◌≤◌, min, length, sym, ap, ◌∙◌, arith}
-use Rattle.edits.proofs.PasteLaws.{no_summary, velocities, at_place, too_many, first_flag, last_flag, exceeds, ready}
+use Rattle.edits.proofs.PasteLaws.{no_summary, no_first_flag, velocities, at_place, too_many, first_flag, last_flag, exceeds, ready}
 use Rattle.edits.proofs.paste.place_paste.Goals as goal
 
 pub unreachable-requires : goal.unreachable-requires
@@ -36,30 +36,33 @@ last_allows-requires c =
     let o = p.order in
     omega arith
 
+pub unreachable-requires-in_default-first_flag : goal.unreachable-requires-in_default-first_flag
+unreachable-requires-in_default-first_flag c = no_first_flag c.args.block.now c.in_ok-scan.scan (sym c.in_ok-scan.ensures) (sym c.first_flag.ensures ∙ c.in_default-first_flag.is)
+
 pub returns-then-not-last_allows : goal.returns-then-not-last_allows
 returns-then-not-last_allows c =
     let s = c.saturating_add.ensures in
     let m = c.min.ensures in
     first_flag c.args.room c.args.hold c.args.rows.now c.args.block.now c.in_ok-scan.scan c.in_ok-scan.ensures c.in-Some.summary c.in-Some.is c.requires.order
-    (sym c.if-velocities_differ.ensures) c.find-place.result c.find-place.ensures.first c.find-place.ensures.end c.find-place.ensures.put (omega arith) (sym c.if-not-last_allows.ensures)
+    (sym c.if-velocities_differ.ensures) c.find-place.result c.find-place.ensures.first c.find-place.ensures.end c.find-place.ensures.put (omega arith) c.in-Some-first_flag.flag (sym c.in-Some-first_flag.ensures) (sym c.if-not-last_allows.ensures)
 
 pub returns-then-not-allows_first : goal.returns-then-not-allows_first
 returns-then-not-allows_first c =
     let s = c.saturating_add.ensures in
     let m = c.min.ensures in
     last_flag c.args.room c.args.hold c.args.rows.now c.args.block.now c.in_ok-scan.scan c.in_ok-scan.ensures c.in-Some.summary c.in-Some.is c.requires.order
-    (sym c.if-velocities_differ.ensures) c.find-place.result c.find-place.ensures.first c.find-place.ensures.end c.find-place.ensures.put (omega arith) (sym c.if-not-last_allows.ensures) (sym c.if-not-allows_first.ensures)
+    (sym c.if-velocities_differ.ensures) c.find-place.result c.find-place.ensures.first c.find-place.ensures.end c.find-place.ensures.put (omega arith) c.in-Some-first_flag.flag (sym c.in-Some-first_flag.ensures) (sym c.if-not-last_allows.ensures) (sym c.if-not-allows_first.ensures)
 
 pub returns-then-taken-hold : goal.returns-then-taken-hold
 returns-then-taken-hold c =
     let s = c.saturating_add.ensures in
     let m = c.min.ensures in
     exceeds c.args.room c.args.hold c.args.rows.now c.args.block.now c.in_ok-scan.scan c.in_ok-scan.ensures c.in-Some.summary c.in-Some.is c.requires.order
-    (sym c.if-velocities_differ.ensures) c.find-place.result c.find-place.ensures.first c.find-place.ensures.end c.find-place.ensures.put (omega arith) (sym c.if-not-last_allows.ensures) (sym c.if-not-allows_first.ensures) (omega arith)
+    (sym c.if-velocities_differ.ensures) c.find-place.result c.find-place.ensures.first c.find-place.ensures.end c.find-place.ensures.put (omega arith) c.in-Some-first_flag.flag (sym c.in-Some-first_flag.ensures) (sym c.if-not-last_allows.ensures) (sym c.if-not-allows_first.ensures) (omega arith)
 
 pub returns : goal.returns
 returns c =
     let s = c.saturating_add.ensures in
     let m = c.min.ensures in
     ready c.args.room c.args.hold c.args.rows.now c.args.block.now c.in_ok-scan.scan c.in_ok-scan.ensures c.in-Some.summary c.in-Some.is c.requires.order
-    (sym c.if-velocities_differ.ensures) c.find-place.result c.find-place.ensures.first c.find-place.ensures.end c.find-place.ensures.put (omega arith) (sym c.if-not-last_allows.ensures) (sym c.if-not-allows_first.ensures) (omega arith)
+    (sym c.if-velocities_differ.ensures) c.find-place.result c.find-place.ensures.first c.find-place.ensures.end c.find-place.ensures.put (omega arith) c.in-Some-first_flag.flag (sym c.in-Some-first_flag.ensures) (sym c.if-not-last_allows.ensures) (sym c.if-not-allows_first.ensures) (omega arith)
