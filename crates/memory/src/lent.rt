@@ -67,8 +67,19 @@ impl<'m, T: Copy> Lent<'m, T> {
     }
 }
 
+/// Stores the rows of a text that was checked, and answers how many they are. (Inner: there is room for them.)
+pub fn load_rows(memory: &mut Lent<'_, Row>, text: &[u8]) -> usize
+    requires { length (rows_in text.now) ≤ length memory.old.cells.now }
+    ensures rows { take result memory.new.cells.now ≡ rows_in text.now }
+    ensures count { result ≡ length (rows_in text.now) }
+    ensures len { length memory.new.cells.now ≡ length memory.old.cells.now }
+    ensures same { memory.new.cells.ghost_name ≡ memory.old.cells.ghost_name }
+{
+    store_rows(text, memory.cells)
+}
+
 /// Stores the `n` rows of a text that was checked, from the place `at` on. (Inner: they are so many, and lie in the memory.)
-pub fn load_rows(memory: &mut Lent<'_, Row>, at: usize, n: usize, text: &[u8])
+pub fn load_rows_at(memory: &mut Lent<'_, Row>, at: usize, n: usize, text: &[u8])
     requires count { n ≡ length (rows_in text.now) }
     requires target { at + n ≤ length memory.old.cells.now }
     ensures value { memory.new.cells.now ≡ paste memory.old.cells.now at (rows_in text.now) n }

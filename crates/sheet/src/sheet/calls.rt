@@ -1,6 +1,5 @@
 //! The calls of a sheet that make, open, read and close it.
 ghost use Rattle.std.specs.Prelude.{◌≡◌, [], length, None};
-ghost use Rattle.cells.specs.Cells.{count_in};
 ghost use Rattle.tables.specs.Lines.{place};
 ghost use Rattle.closed_sheet.specs.Answers.{cells_answer, header_answer, file_answer, after_file};
 ghost use Rattle.journal.specs.Journals.{entries_of};
@@ -17,21 +16,10 @@ use journal::journal::Journal;
 use memory::lent::{Lent, load_rows};
 use model::Row;
 use model::header::Header;
-use reading::scan::Scan;
 use reading::stage::Part;
 use reading::text::scan_text;
 use refusal::Refusal;
 use writing::file::write_file;
-
-/// How many rows a text has, by its scan.
-fn row_count(scan: &Scan) -> usize
-    ensures { result ≡ count_in scan.now.summary }
-{
-    match scan.summary {
-        Some(summary) => summary.count,
-        None => 0,
-    }
-}
 
 impl<'m> Sheet<'m> {
     /// An empty sheet, with no file open, over memory for rows and for rows taken out.
@@ -61,9 +49,7 @@ impl<'m> Sheet<'m> {
     {
         let room = self.rows.len().min(MOST_ROWS);
         let scan = scan_text(file, Part::File, Some(room))?;
-        let count = row_count(&scan);
-        load_rows(&mut self.rows, 0, count, file);
-        self.len = count;
+        self.len = load_rows(&mut self.rows, file);
         self.held = 0;
         self.header = Some(scan.header);
         self.journal = Journal::new();

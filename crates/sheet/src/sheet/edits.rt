@@ -14,7 +14,7 @@ use edits::cut::place_cut;
 use edits::paste::place_paste;
 use edits::place::Place;
 use journal::journal::{Edit, Entry};
-use memory::lent::load_rows;
+use memory::lent::load_rows_at;
 use refusal::Refusal;
 
 impl Sheet<'_> {
@@ -31,7 +31,7 @@ impl Sheet<'_> {
         self.held = stay.rows + taken;
         self.rows
             .move_block(place.end, place.first + place.put, self.len - place.end);
-        load_rows(&mut self.rows, place.first, place.put, block);
+        load_rows_at(&mut self.rows, place.first, place.put, block);
         self.len = self.len - taken + place.put;
         let first = place.first;
         let put = place.put;

@@ -1,7 +1,5 @@
 use Rattle.std.proofs.Common.{◌≡◌, ◌+◌, ◌≤◌, min, true, length, take, Some, Ok, sym, refl, ap, ◌∙◌, arith}
 use Rattle.std.proofs.lemmas.Bool.{and_parts}
-use Rattle.cells.specs.Cells.{count_in}
-use Rattle.cells.proofs.CellLaws.{count_summary}
 use Rattle.reading.specs.declared.stage.Part.TheVariants.{File}
 use Rattle.reading.specs.Texts.{scan_of}
 use Rattle.reading.specs.Stores.{rows_in}
@@ -15,13 +13,12 @@ use Rattle.sheet.specs.States.{accepted}
 use Rattle.sheet.specs.Calls.{after_opening}
 use Rattle.sheet.specs.Sheets.{view}
 use Rattle.sheet.specs.Sound.{pasts_of}
-use Rattle.sheet.proofs.OpenLaws.{rows_open, sound_open}
+use Rattle.sheet.proofs.OpenLaws.{sound_open}
 use Rattle.sheet.proofs.sheet.Sheet.open.Goals as goal
 use Rattle.sheet.proofs.sheet.Sheet.open.Goals.{In_ok-scan}
 
 -- the rows of the file are in order, and fit the memory and a sheet
 record Fit (c : In_ok-scan) : Type 0 where
-  count : count_in c.in_ok-scan.scan.summary ≡ length (rows_in c.args.file.now)
   room : length (rows_in c.args.file.now) ≤ min (length c.args.self.now.rows.cells.now) 8192
   order : in_order (rows_in c.args.file.now) ≡ true
   told : opened_from (length c.args.self.now.rows.cells.now) c.args.file.now ≡ Ok (record { header = c.in_ok-scan.scan.header; rows = rows_in c.args.file.now })
@@ -36,56 +33,48 @@ fit c =
     let t = tracks_text File (Some room) file scan told in
     let f = t.fits room refl in
     record {
-      count = ap count_in t.summary ∙ count_summary (rows_in file);
       room = omega arith;
       order = text_in_order File (Some room) file scan told;
       told = ap (λ k. contents_by (scan_of File (Some k) file) (rows_in file)) (sym n) ∙ ap (λ r. contents_by r (rows_in file)) told;
     }
 
-pub load_rows-requires : goal.load_rows-requires
-load_rows-requires c =
-    let f = fit (goal.at.load_rows-requires c).In_ok-scan in
-    let n = c.row_count-count.ensures in
-    let count = f.count in
-    let room = f.room in
-    record { count = n ∙ count; target = omega arith }
+pub load_rows-self-requires : goal.load_rows-self-requires
+load_rows-self-requires c = let room = (fit (goal.at.load_rows-self-requires c).In_ok-scan).room in omega arith
 
 pub invariant_of-self : goal.invariant_of-self
 invariant_of-self c =
     let f = fit (goal.at.invariant_of-self c).In_ok-scan in
-    let s = c.args.self.now in
-    let n : c.row_count-count.result ≡ length (rows_in c.args.file.now) = c.row_count-count.ensures ∙ f.count in
+    let rows = rows_in c.args.file.now in
     let room = f.room in
-    let len = c.load_rows.ensures.len in record {
+    let put = c.load_rows-self.ensures in
+    let count = put.count in
+    let len = put.len in
+    record {
       inside = omega arith;
       few = omega arith;
-      up = ap ascends (rows_open s.rows.cells.now (rows_in c.args.file.now) c.row_count-count.result c.load_rows.new.memory.cells.now n room c.load_rows.ensures.value)
-          ∙ (and_parts (ascends (rows_in c.args.file.now)) (flags_stay (rows_in c.args.file.now)) f.order).0;
+      up = ap ascends put.rows ∙ (and_parts (ascends rows) (flags_stay rows) f.order).0;
       kept = omega arith;
       counted = sym (ap taken_by c.new-self.ensures);
-      sound = sound_open s.rows.cells.now (rows_in c.args.file.now) c.row_count-count.result c.load_rows.new.memory.cells.now n room c.load_rows.ensures.value
-          (entries_of c.new-self.result) _ c.new-self.ensures len f.order;
+      sound = sound_open (length c.args.self.now.rows.cells.now) c.load_rows-self.result rows c.load_rows-self.new.memory.cells.now (entries_of c.new-self.result) _ put.rows put.len room f.order c.new-self.ensures;
     }
 
 pub returns : goal.returns
 returns c =
     let f = fit (goal.at.returns c).In_ok-scan in
     let s = c.args.self.now in
-    let file = c.args.file.now in
-    let n : c.row_count-count.result ≡ length (rows_in file) = c.row_count-count.ensures ∙ f.count in
-    let r = rows_open s.rows.cells.now (rows_in file) c.row_count-count.result c.load_rows.new.memory.cells.now n f.room c.load_rows.ensures.value in
+    let put = c.load_rows-self.ensures in
     let j = ap (λ z. pasts_of z (take 0 s.taken.cells.now)) c.new-self.ensures in
     record {
       holds = (
-        record { header = c.in_ok-scan.scan.header; rows = rows_in file },
+        record { header = c.in_ok-scan.scan.header; rows = rows_in c.args.file.now },
         f.told,
-        record { header = refl; rows = r; journal = c.new-self.ensures; changes = refl; room = c.load_rows.ensures.len; taken = refl },
+        record { header = refl; rows = put.rows; journal = c.new-self.ensures; changes = refl; room = put.len; taken = refl },
       );
       opened = record {
         answer = sym (ap accepted f.told);
         after =
             (λ i. record {
-              state = record { room = c.load_rows.ensures.len i; hold = length s.taken.cells.now; header = Some c.in_ok-scan.scan.header; rows = r i; changes = 0 };
+              state = record { room = put.len i; hold = length s.taken.cells.now; header = Some c.in_ok-scan.scan.header; rows = put.rows i; changes = 0 };
               journal = j i;
             })
             ∙ sym (ap (after_opening (view s)) f.told);

@@ -3,7 +3,7 @@ use Rattle.std.proofs.lemmas.List.{take_all}
 use Rattle.std.proofs.lemmas.List.Edits.{length-paste}
 use Rattle.std.proofs.lemmas.Slice.{put_mid-paste}
 use Rattle.reading.specs.Stores.{rows_in}
-use Rattle.memory.proofs.lent.load_rows.Goals as goal
+use Rattle.memory.proofs.lent.load_rows_at.Goals as goal
 
 pub returns : goal.returns
 returns c =
