@@ -12,7 +12,7 @@ rises f up m (suc n) h =
     (λ (l : suc n ≤ m). let e : m ≡ suc n = omega arith in rw e (omega arith))
     (cases_lt m (suc n))
 
--- lastStarted f n x
+-- last_started f n x
 
 last_le : (f : ℕ → ℕ) (n x : ℕ) → last_started f n x ≤ n
 unfolding last_started
