@@ -1,7 +1,7 @@
-use Rattle.std.proofs.Common.{◌≡◌, ℕ, zero, suc, ◌+◌, ◌-◌, ◌<◌, ◌≤◌, true, false, leb, ◌⊎◌, Some, None, sym, refl, ap, ◌∙◌, inl, inr, ⊎_elim, add-one, arith}
+use Rattle.std.proofs.Common.{◌≡◌, ℕ, zero, suc, ◌+◌, ◌-◌, ◌<◌, ◌≤◌, true, false, leb, ◌⊎◌, Some, None, sym, refl, ap, ◌∙◌, ⊎_elim, add-one, arith}
 use Rattle.std.proofs.lemmas.Bool.{le-leb, leb-true, leb-false, and_from, and_parts, cond_both, cond-true, cases_Bool, cases_lt}
 use Rattle.calendar.specs.declared.date.Date.{Date}
-use Rattle.calendar.specs.Dates.{leap, days_in_year, short, days_in_month, days_of_years, days_before_year, days_before_month, day_number, date_exists, day_exists, last_started, year_of, day_of_year, month_of, date_of, date_if, Earlier, DaysInCalendar, DaysInOrder, EveryDayHasItsDate, EveryDateIsOfItsDay, DateEdges}
+use Rattle.calendar.specs.Dates.{leap, days_in_year, short, days_in_month, days_of_years, days_before_year, days_before_month, day_number, date_exists, day_exists, last_started, year_of, day_of_year, month_of, date_of, date_if, DaysInCalendar, DaysInOrder, EveryDayHasItsDate, EveryDateIsOfItsDay, DateEdges}
 
 -- what does not fall from one place to the next does not fall at all
 rises : (f : ℕ → ℕ) → ((n : ℕ) → f n ≤ f (suc n)) → (m n : ℕ) → m ≤ n → f m ≤ f n

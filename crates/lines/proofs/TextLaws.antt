@@ -1,11 +1,11 @@
-use Rattle.std.proofs.Common.{◌≡◌, ℕ, suc, ◌+◌, ◌-◌, ◌<◌, ◌≤◌, Bool, true, false, cond, eqb, ltb, leb, List, [], ◌∷◌, ◌++◌, length, take, drop, Some, None, Ok, Err, Option, sym, refl, ap, ◌∙◌, subst, ⊎_elim, append_assoc, append-nil, arith, Bor, MatchOption}
+use Rattle.std.proofs.Common.{◌≡◌, ℕ, suc, ◌+◌, ◌-◌, ◌<◌, ◌≤◌, Bool, true, false, eqb, ltb, leb, List, [], ◌∷◌, ◌++◌, length, take, drop, Some, None, Ok, Err, Option, sym, refl, ap, ◌∙◌, subst, ⊎_elim, append_assoc, append-nil, arith, Bor, MatchOption}
 use Rattle.std.proofs.lemmas.List.{length_push, length-take-le, drop-drop}
 use Rattle.std.proofs.lemmas.Bool.{cases_Bool, cond_both}
 use Rattle.refusal.specs.declared.Refusal.{Refusal}
 use Rattle.lines.specs.declared.scan.LineEnd.{LineEnd}
 use Rattle.lines.specs.declared.scan.LineEnd.TheVariants as ends
-use Rattle.lines.specs.Lines.{ended, line_end, Inside, Answer, lists, line_by, next_line, bytes_taken, lines_taken}
-use Rattle.lines.specs.Texts.{Ending, at_line, forbidden, too_long, Text, on_line, ends_by, ends_after, text_on, text_of, ending_refusal}
+use Rattle.lines.specs.Lines.{line_end, Inside, lists, line_by, next_line, bytes_taken, lines_taken}
+use Rattle.lines.specs.Texts.{Ending, at_line, forbidden, too_long, Text, on_line, ends_by, text_on, text_of, ending_refusal}
 
 abbrev AtLeast : ℕ → LineEnd → Type 0
 AtLeast k (ends.After m) = k ≤ m

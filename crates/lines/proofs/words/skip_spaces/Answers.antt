@@ -1,5 +1,5 @@
-use Rattle.std.proofs.Common.{◌≡◌, length, get_or, take, drop, sym, ap, ◌∙◌, arith, rules}
-use Rattle.lines.proofs.WordLaws.{skip_more, skip_all, rest_same, rest_first, rest_short, past_first}
+use Rattle.std.proofs.Common.{◌≡◌, length, drop, sym, ap, ◌∙◌, arith, rules}
+use Rattle.lines.proofs.WordLaws.{skip_more, rest_same, rest_first, rest_short, past_first}
 use Rattle.lines.specs.Words.{words}
 use Rattle.lines.proofs.words.skip_spaces.Goals as goal
 

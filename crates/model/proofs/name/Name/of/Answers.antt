@@ -1,4 +1,4 @@
-use Rattle.std.proofs.Common.{◌≡◌, get_or, set, ap, ◌∙◌, arith}
+use Rattle.std.proofs.Common.{get_or, set, ap, ◌∙◌, arith}
 use Rattle.model.proofs.NameLaws.{fill_more}
 use Rattle.model.proofs.name.Name.of.Goals as goal
 
