@@ -1,10 +1,9 @@
-use Rattle.std.proofs.Common.{◌≡◌, ℕ, ◌+◌, ◌<◌, ◌≤◌, Bool, true, false, cond, ◌&&◌, ◌||◌, eqb, List, [], ◌∷◌, ◌++◌, length, get_or, drop, Some, None, Option, sym, refl, ap, ◌∙◌, ⊎_elim, arith}
+use Rattle.std.proofs.Common.{◌≡◌, ℕ, ◌+◌, ◌<◌, ◌≤◌, Bool, true, false, cond, eqb, List, [], ◌∷◌, ◌++◌, length, get_or, drop, Some, sym, refl, ap, ◌∙◌, ⊎_elim, arith}
 use Rattle.std.proofs.lemmas.List.{at_drop_more, at_drop_all}
-use Rattle.std.proofs.lemmas.Bool.{cases_Bool, eqb-true, eq-eqb, ne_eqb}
-use Rattle.calendar.specs.declared.instant.Instant.{Instant}
+use Rattle.std.proofs.lemmas.Bool.{cases_Bool, eqb-true, ne_eqb}
 use Rattle.model.specs.declared.Row.{Row}
 use Rattle.cells.specs.declared.summary.Summary.{Summary}
-use Rattle.cells.specs.Cells.{step_seconds, every_step, interval_of, last_of, cells_of, cells_if, started, next_interval, extended, extended_by, cells_by, summary_if, summary_with, count_in}
+use Rattle.cells.specs.Cells.{step_seconds, every_step, interval_of, last_of, cells_of, cells_if, started, extended, extended_by, cells_by, summary_if, summary_with, count_in}
 
 by_bool : {P : Type 0} (b : Bool) → (b ≡ true → P) → (b ≡ false → P) → P
 by_bool b f g = ⊎_elim f g (cases_Bool b)

@@ -1,4 +1,4 @@
-use Rattle.std.proofs.Common.{◌≡◌, ℕ, ◌+◌, ◌≤◌, Bool, true, false, cond, List, [], ◌∷◌, length, drop, Some, None, Ok, Err, Option, Result, sym, refl, ap, ◌∙◌, arith, Bor}
+use Rattle.std.proofs.Common.{◌≡◌, ℕ, ◌+◌, ◌≤◌, Bool, true, false, cond, List, length, drop, Some, None, Ok, Err, Option, Result, sym, refl, ap, ◌∙◌, arith, Bor}
 use Rattle.std.proofs.lemmas.List.{drop-drop}
 use Rattle.refusal.specs.declared.Refusal.{Refusal}
 use Rattle.model.specs.declared.Row.{Row}
@@ -6,7 +6,7 @@ use Rattle.cells.specs.declared.summary.Summary.{Summary}
 use Rattle.cells.specs.Cells.{count_in, summary_with}
 use Rattle.std.proofs.lemmas.Bool.{le-ltb}
 use Rattle.lines.specs.Lines.{next_line, lists, lines_taken, bytes_taken}
-use Rattle.lines.specs.Texts.{at_line, Text, on_line, ends_by, text_of, ending_refusal}
+use Rattle.lines.specs.Texts.{text_of}
 use Rattle.lines.proofs.TextLaws.{some_line, no_line, bad_line}
 use Rattle.records.specs.declared.record.Record.{Record}
 use Rattle.records.specs.declared.record.Record.TheVariants as rec
@@ -20,7 +20,7 @@ use Rattle.reading.specs.Order.{next_stage}
 use Rattle.reading.specs.Builds.{row_of}
 use Rattle.reading.specs.Scans.{started, row_count, row_refusal, with_row, on_ok, taken, taken_if, at_stage, content_step, by_stage, by_record, line_step}
 use Rattle.reading.specs.Ends.{end_refusal}
-use Rattle.reading.specs.Texts.{scan_end_by, on_scan, scan_lines, scan_from, scan_of}
+use Rattle.reading.specs.Texts.{scan_end_by, on_scan, scan_from, scan_of}
 
 never : {P : Type 0} → ◌≡◌ {A = ℕ} 0 1 → P
 never z = absurd (omega arith)

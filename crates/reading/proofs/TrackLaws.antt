@@ -27,7 +27,7 @@ use Rattle.reading.specs.Builds.{row_of}
 use Rattle.reading.specs.Scans.{started, row_count, is_full_at, room_refusal, row_refusal_after, row_refusal, with_row, on_ok, taken, taken_if, at_stage, with_stage, content_step, by_stage, by_record, line_step}
 use Rattle.reading.specs.Ends.{end_refusal}
 use Rattle.reading.specs.Texts.{scan_end_by, on_scan, scan_lines, scan_from, scan_of}
-use Rattle.reading.specs.Stores.{with_velocity, completed, with_part, position_part, velocity_part, part_by_record, part_by_type, part_of, rows_with, rows_on, rows_in}
+use Rattle.reading.specs.Stores.{completed, with_part, position_part, velocity_part, part_by_record, part_by_type, part_of, rows_with, rows_on, rows_in}
 
 never : {P : Type 0} → ◌≡◌ {A = ℕ} 0 1 → P
 never z = absurd (omega arith)

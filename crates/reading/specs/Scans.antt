@@ -1,14 +1,10 @@
-use Rattle.std.specs.Prelude.{◌≡◌, ℕ, ◌+◌, Bool, true, false, cond, not, List, [], drop, ℤ, pos, Some, None, Ok, Err, Option, Result, nat_le}
+use Rattle.std.specs.Prelude.{◌≡◌, ℕ, Bool, false, cond, List, [], drop, Some, None, Ok, Err, Option, Result, nat_le}
 use Rattle.refusal.specs.declared.Refusal.{Refusal}
-use Rattle.refusal.specs.declared.Refusal.TheVariants.{UnknownRecord, OutOfPlace, NotAfter, FlagChanges, TooManyRows, CellsDisagree}
+use Rattle.refusal.specs.declared.Refusal.TheVariants.{UnknownRecord, OutOfPlace, NotAfter, FlagChanges, TooManyRows}
 use Rattle.calendar.specs.Instants.{moment}
 use Rattle.model.specs.declared.Row.{Row}
 use Rattle.model.specs.Flags.{allows}
 use Rattle.model.specs.declared.header.Header.{Header}
-use Rattle.model.specs.declared.header.Origin.{Origin}
-use Rattle.model.specs.declared.header.Satellite.{Satellite}
-use Rattle.model.specs.declared.header.Accuracy.{Accuracy}
-use Rattle.model.specs.declared.header.Offset.{Offset}
 use Rattle.cells.specs.declared.summary.Summary.{Summary}
 use Rattle.cells.specs.Cells as cells
 use Rattle.records.specs.declared.record.Record.{Record}
@@ -23,7 +19,7 @@ use Rattle.reading.specs.declared.stage.Stage.TheVariants as at
 use Rattle.reading.specs.declared.stage.Part.{Part}
 use Rattle.reading.specs.declared.stage.Part.TheVariants as part
 use Rattle.reading.specs.Builds.{origin_of, satellite_of, span_of, accuracy_of, offset_of, row_of}
-use Rattle.reading.specs.Order.{next_stage, rows_done}
+use Rattle.reading.specs.Order.{next_stage}
 
 -- before the first line: a file begins with H1, a block with its rows
 abbrev pub first_stage : Part → Stage

@@ -1,7 +1,6 @@
-use Rattle.std.proofs.Common.{◌≡◌, ℕ, suc, ◌+◌, ◌<◌, ◌≤◌, min, Bool, true, false, cond, ◌&&◌, ◌||◌, eqb, leb, List, [], ◌∷◌, ◌++◌, length, ℤ, pos, negsuc, nat_abs, Some, None, Ok, Err, Option, Result, sym, refl, ap, ◌∙◌, ⊎_elim, append_assoc, append-nil, arith}
+use Rattle.std.proofs.Common.{◌≡◌, ℕ, ◌+◌, ◌≤◌, min, Bool, true, false, cond, ◌&&◌, ◌||◌, eqb, leb, List, [], ◌∷◌, ◌++◌, length, ℤ, pos, negsuc, nat_abs, Some, None, Ok, Err, Option, Result, sym, refl, ap, ◌∙◌, ⊎_elim, append_assoc, append-nil, arith}
 use lib.Signed.{le_z}
 use Rattle.std.proofs.lemmas.Bool.{cases_Bool, and_from, and_parts, eqb-true, leb-true}
-use Rattle.std.proofs.lemmas.Int.{ints}
 use Rattle.calendar.specs.Instants.{in_calendar}
 use Rattle.calendar.proofs.Moments.{in_calendar_lem}
 use Rattle.refusal.specs.declared.Refusal.{Refusal}
@@ -16,7 +15,7 @@ use Rattle.records.specs.declared.field.Fault.{Fault}
 use Rattle.records.specs.declared.record.Record.{Record}
 use Rattle.records.specs.declared.record.Record.TheVariants as rec
 use Rattle.records.specs.Fields.{in_bounds, text_if, number_if, day_if, last_day, value_by, field_value}
-use Rattle.records.specs.Reads.{fault_at, onward, read_on, count_fits, read_record}
+use Rattle.records.specs.Reads.{onward, read_on, count_fits, read_record}
 use Rattle.records.specs.Ranges.{is_text, is_in_bounds, in_field_by, in_field, in_fields}
 use Rattle.records.specs.Tables.{direction, day_number, second_of_day, leap_flag, position, fields_of}
 use Rattle.records.specs.Values.{number_in, value_at, number_at}

@@ -1,16 +1,16 @@
-use Rattle.std.proofs.Common.{◌≡◌, ℕ, zero, suc, ◌+◌, ◌-◌, ◌*◌, ◌/◌, ◌%◌, ◌<◌, ◌≤◌, Bool, true, false, cond, ◌&&◌, List, [], ◌∷◌, map, length, get_or, ℤ, pos, negsuc, is_ok, Ok, Err, Result, sym, refl, ap, ◌∙◌, subst, inl, inr, add-zero, arith}
+use Rattle.std.proofs.Common.{◌≡◌, ℕ, zero, suc, ◌-◌, ◌/◌, ◌%◌, ◌<◌, ◌≤◌, Bool, true, false, cond, ◌&&◌, List, [], ◌∷◌, map, length, get_or, ℤ, pos, negsuc, is_ok, Ok, Err, Result, sym, refl, ap, ◌∙◌, inl, inr, add-zero, arith}
 use Rattle.std.proofs.lemmas.List.{length-map, get_or-map}
 use Rattle.std.proofs.lemmas.Bool.{and_parts, and_from, cases_Bool, both_ways}
 use Rattle.refusal.specs.declared.Refusal.{Refusal}
 use Rattle.refusal.specs.declared.Refusal.TheVariants.{OutsideCalendar}
 use Rattle.calendar.specs.declared.instant.Instant.{Instant}
-use Rattle.calendar.specs.Instants.{moment, in_calendar, instant_of}
+use Rattle.calendar.specs.Instants.{moment}
 use Rattle.calendar.proofs.Moments.{in_calendar_lem, calendar_bounds, instant_of_pair, moment_bounds, moment_same}
 use Rattle.model.specs.declared.Row.{Row}
 use Rattle.tables.specs.declared.lines.RowAndEnds.{RowAndEnds}
 use Rattle.tables.specs.Ends.{EndsRead}
 use Rattle.tables.specs.Lines.{time_of, place, Ascending}
-use Rattle.tables.proofs.Places.{place_in, place_read, place_within, place_map, place_map_err}
+use Rattle.tables.proofs.Places.{place_read, place_within, place_map, place_map_err}
 use Rattle.tables.proofs.Orders.{up_lt, up_le, same_length}
 use Rattle.shifts.specs.Shifts.{moved, stays, move_instant, move_row, move_row_if, read_stays, move_read, move_read_if, all_stay, shift_rows}
 

@@ -1,4 +1,4 @@
-use Rattle.std.proofs.Common.{◌≡◌, ℕ, suc, ◌+◌, ◌-◌, ◌*◌, ◌/◌, ◌%◌, ◌<◌, ◌≤◌, Bool, true, false, cond, ◌&&◌, leb, List, [], ◌∷◌, map, ℤ, pos, negsuc, ◌+ℤ◌, nat_abs, Ok, Err, Result, sym, refl, ap, ◌∙◌, inl, inr, arith}
+use Rattle.std.proofs.Common.{◌≡◌, ℕ, ◌+◌, ◌*◌, ◌<◌, Bool, true, false, cond, leb, List, [], ◌∷◌, map, ℤ, pos, negsuc, ◌+ℤ◌, nat_abs, Ok, Err, Result, sym, refl, ap, ◌∙◌, inl, inr, arith}
 use lib.IntN.{+ℤ_assoc, +ℤ_idr}
 use lib.Signed.{le_z}
 use Rattle.std.proofs.lemmas.Int.{ints}
@@ -6,13 +6,13 @@ use Rattle.std.proofs.lemmas.Bool.{and_parts, cases_Bool}
 use Rattle.refusal.specs.declared.Refusal.{Refusal}
 use Rattle.refusal.specs.declared.Refusal.TheVariants.{ShiftTooLarge}
 use Rattle.calendar.specs.declared.instant.Instant.{Instant}
-use Rattle.calendar.specs.Instants.{moment, in_calendar, instant_of}
+use Rattle.calendar.specs.Instants.{moment, instant_of}
 use Rattle.calendar.proofs.Moments.{instant_of_pair}
 use Rattle.model.specs.declared.Row.{Row}
 use Rattle.model.specs.declared.LeapFlag.{LeapFlag}
 use Rattle.tables.specs.Lines.{time_of, not_after}
 use Rattle.tables.specs.Windows.{flag_of, window_at, window_of, window_if}
-use Rattle.shifts.specs.Shifts.{moved, stays, move_instant, move_row, all_stay, shift_rows, accepts, shift_answer}
+use Rattle.shifts.specs.Shifts.{moved, stays, move_row, all_stay, shift_rows, accepts, shift_answer}
 use Rattle.shifts.specs.Stacks.{piled, total, StackedShifts, all_accepted, sum_of, window_under, AnswersAsBelow}
 use Rattle.shifts.proofs.Rows.{stays_bounds, moment_moved, cond_ok, cond_err}
 

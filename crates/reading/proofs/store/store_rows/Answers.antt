@@ -1,6 +1,6 @@
-use Rattle.std.proofs.Common.{◌≡◌, ◌≤◌, length, take, drop, sym, ap, ◌∙◌, arith}
+use Rattle.std.proofs.Common.{◌≡◌, length, take, drop, sym, ap, ◌∙◌, arith}
 use Rattle.std.proofs.lemmas.List.{length-take-le}
-use Rattle.lines.specs.Texts.{Text, text_of, on_line}
+use Rattle.lines.specs.Texts.{text_of, on_line}
 use Rattle.reading.specs.Stores.{part_of, with_part, rows_on, rows_in}
 use Rattle.reading.proofs.StoreLaws.{rows_more, rows_room_lem}
 use Rattle.reading.proofs.store.store_rows.Goals as goal

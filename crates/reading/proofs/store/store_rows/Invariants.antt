@@ -1,4 +1,4 @@
-use Rattle.std.proofs.Common.{◌≡◌, ◌-◌, ◌≤◌, [], length, take, drop}
+use Rattle.std.proofs.Common.{◌≡◌, ◌-◌, ◌≤◌, length, take, drop}
 use Rattle.lines.specs.Texts.{text_of}
 use Rattle.reading.specs.Stores.{rows_on, rows_in}
 use Rattle.reading.proofs.store.store_rows.Given as goal

@@ -1,10 +1,10 @@
-use Rattle.std.proofs.Common.{◌≡◌, ℕ, ◌+◌, ◌<◌, ◌≤◌, length, drop, Some, None, Ok, Err, Option, Result, sym, refl, ap, ◌∙◌, subst, arith, rules}
+use Rattle.std.proofs.Common.{◌≡◌, ℕ, ◌+◌, length, drop, Some, Ok, Result, sym, ap, ◌∙◌, arith}
 use Rattle.refusal.specs.declared.Refusal.{Refusal}
 use Rattle.reading.specs.declared.scan.Scan.{Scan}
 use Rattle.std.proofs.lemmas.Result.{err_from_is_err_and}
-use Rattle.lines.specs.Lines.{next_line, lists}
+use Rattle.lines.specs.Lines.{next_line}
 use Rattle.lines.specs.Texts.{text_of}
-use Rattle.reading.specs.Scans.{row_count, line_step, on_ok}
+use Rattle.reading.specs.Scans.{line_step, on_ok}
 use Rattle.reading.specs.Ends.{end_refusal}
 use Rattle.reading.specs.Texts.{scan_from, scan_of}
 use Rattle.reading.proofs.TextLaws.{count_step, one_line, bad_step, at_last, no_text, some_told, none_told, line_taken, bytes_taken_lem, none_taken, short_text}

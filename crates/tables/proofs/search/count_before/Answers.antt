@@ -1,7 +1,7 @@
-use Rattle.std.proofs.Common.{◌≡◌, ℕ, ◌-◌, ◌/◌, ◌%◌, Ok, Err, sym, ap, ◌∙◌, subst, arith}
+use Rattle.std.proofs.Common.{◌≡◌, ℕ, ◌-◌, ◌/◌, ◌%◌, Err, ap, ◌∙◌, subst, arith}
 use Rattle.calendar.specs.Instants.{moment, instant_if}
 use Rattle.calendar.proofs.Moments.{moment_bounds}
-use Rattle.tables.specs.Lines.{not_after, earlier}
+use Rattle.tables.specs.Lines.{not_after}
 use Rattle.tables.proofs.Earlier.{earlier_is, earlier_first, split_moment}
 use Rattle.tables.proofs.search.count_before.Goals as goal
 

@@ -1,4 +1,4 @@
-use Rattle.std.proofs.Common.{◌≡◌, ◌+◌, true, false, sym, ◌∙◌, arith}
+use Rattle.std.proofs.Common.{◌+◌, true, false, sym, ◌∙◌, arith}
 use Rattle.tables.proofs.Places.{place_in}
 use Rattle.tables.proofs.Orders.{same_length}
 use Rattle.tables.proofs.Flags.{flags_first, flags_more}

@@ -1,4 +1,4 @@
-use Rattle.std.proofs.Common.{◌≡◌, ◌+◌, drop, Some, sym, ap, ◌∙◌, arith, rules}
+use Rattle.std.proofs.Common.{◌+◌, drop, Some, sym, ap, ◌∙◌, arith}
 use Rattle.cells.specs.Cells.{extended_by, cells_by}
 use Rattle.cells.proofs.CellLaws.{by_more, by_all, cells_from}
 use Rattle.cells.proofs.summary.running.cells_of.Goals as goal

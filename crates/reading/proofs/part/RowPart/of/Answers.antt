@@ -1,4 +1,4 @@
-use Rattle.std.proofs.Common.{◌≡◌, sym, ap, ◌∙◌}
+use Rattle.std.proofs.Common.{ap, ◌∙◌}
 use Rattle.std.proofs.lemmas.List.{take_rest}
 use Rattle.reading.specs.Stores.{part_by_record, part_by_type}
 use Rattle.reading.proofs.part.RowPart.of.Goals as goal

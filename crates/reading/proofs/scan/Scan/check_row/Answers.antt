@@ -1,4 +1,4 @@
-use Rattle.std.proofs.Common.{◌≡◌, sym, arith}
+use Rattle.std.proofs.Common.{arith}
 use Rattle.reading.proofs.RowChecks.{not_after_lem}
 use Rattle.reading.proofs.scan.Scan.check_row.Goals as goal
 

@@ -1,6 +1,5 @@
-use Rattle.std.proofs.Common.{◌≡◌, Ok, Err, refl, ap, ◌∙◌}
+use Rattle.std.proofs.Common.{Ok}
 use Rattle.std.proofs.lemmas.Result.{err_from_is_err_and}
-use Rattle.reading.specs.Scans.{at_stage}
 use Rattle.reading.proofs.StepLaws.{step_by}
 use Rattle.reading.proofs.scan.Scan.line.Goals as goal
 

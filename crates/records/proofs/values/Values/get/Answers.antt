@@ -1,4 +1,4 @@
-use Rattle.std.proofs.Common.{length, take, pos, sym, arith, rules}
+use Rattle.std.proofs.Common.{take, pos, sym, arith}
 use Rattle.std.proofs.lemmas.List.{get_or-take, get_or_past, length-take}
 use Rattle.records.specs.declared.field.Value.TheVariants.{Number}
 use Rattle.records.proofs.values.Values.get.Goals as goal

@@ -1,4 +1,4 @@
-use Rattle.std.proofs.Common.{◌≡◌, ℤ, ap, ◌∙◌, w64, SFits, rules}
+use Rattle.std.proofs.Common.{ℤ, ap, ◌∙◌, w64, SFits, rules}
 use Rattle.std.proofs.lemmas.Int.{to_z-of_z}
 use Rattle.tables.specs.Lines.{time_of, place}
 use Rattle.tables.proofs.Places.{place_map, place_map_err}

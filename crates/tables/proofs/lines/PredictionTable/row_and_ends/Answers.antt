@@ -1,4 +1,4 @@
-use Rattle.std.proofs.Common.{◌≡◌, ℕ, ◌-◌, ap, ◌∙◌, subst, arith}
+use Rattle.std.proofs.Common.{ℕ, ◌-◌, ap, ◌∙◌, subst, arith}
 use Rattle.tables.specs.Lines.{Ascending, place}
 use Rattle.tables.proofs.Places.{place_in, place_within}
 use Rattle.tables.proofs.Orders.{same_length}

@@ -1,4 +1,3 @@
-use Rattle.std.proofs.Common.{arith}
 use Rattle.tables.proofs.Places.{place_at, place_past}
 use Rattle.tables.proofs.row_table.RowTable.read.Goals as goal
 
