@@ -21,7 +21,7 @@ use Rattle.reading.specs.Order.{next_stage, rows_done}
 use Rattle.reading.specs.Ends.{end_refusal, end_refusal_of}
 use Rattle.reading.specs.Scans.{started, row_refusal, with_row, on_ok, taken_if, taken, at_stage, with_stage, content_step, by_stage, by_record, line_step}
 use Rattle.reading.specs.Texts.{scan_end_by, on_scan, scan_lines, scan_from, scan_of}
-use Rattle.reading.specs.Stores.{completed, with_part, position_part, velocity_part, part_by_record, part_by_type, part_of, rows_with, rows_on, rows_in}
+use Rattle.reading.specs.Stores.{completed, with_part, position_part, velocity_part, part_by_record, part_by_type, rows_with, rows_on, rows_in}
 use Rattle.edits.specs.Checks.{none, moving, is_some}
 use Rattle.edits.specs.Stages.{moving_at}
 use Rattle.edits.proofs.FlagLaws.{never}

@@ -1,5 +1,5 @@
 -- What a cut answers, by the place that was found.
-use Rattle.std.proofs.Common.{◌≡◌, ℕ, ◌+◌, ◌-◌, ◌<◌, ◌≤◌, Bool, true, false, cond, not, ◌&&◌, ltb, List, [], ◌∷◌, ◌++◌, map, length, Ok, Err, Result, sym, refl, ap, ◌∙◌, subst, arith}
+use Rattle.std.proofs.Common.{◌≡◌, ℕ, ◌-◌, ◌<◌, ◌≤◌, Bool, true, false, cond, not, ◌&&◌, ltb, List, [], ◌∷◌, map, length, Ok, Err, Result, sym, refl, ap, ◌∙◌, subst, arith}
 use Rattle.std.proofs.lemmas.Bool.{le-ltb, lt-ltb, and_from, and_parts}
 use Rattle.refusal.specs.declared.Refusal.{Refusal}
 use Rattle.refusal.specs.declared.Refusal.TheVariants.{NothingToCut, CutTakesAll, TakenRowsExceed, OutsideCalendar}
@@ -10,8 +10,8 @@ use Rattle.model.specs.declared.Row.{Row}
 use Rattle.tables.specs.Lines.{time_of, not_after, earlier, ascends}
 use Rattle.journal.specs.declared.journal.Edit.TheVariants.{Cut}
 use Rattle.edits.specs.declared.place.Place.{Place}
-use Rattle.edits.specs.Changes.{Change, before, behind, between, change_at}
-use Rattle.edits.specs.Checks.{Answer, rules, none, flags_stay, in_order, cut_rules, cut_of, cut_checks, joined}
+use Rattle.edits.specs.Changes.{Change, before, behind, between}
+use Rattle.edits.specs.Checks.{rules, none, flags_stay, in_order, cut_rules, cut_of, cut_checks, joined}
 use Rattle.edits.specs.Places.{Ready, Decided}
 use Rattle.edits.proofs.FlagLaws.{never, flags_without}
 use Rattle.edits.proofs.RuleLaws.{accepts, refused_by, some_in, none_in}

@@ -2,12 +2,10 @@
 use Rattle.std.proofs.Common.{◌≡◌, ℕ, ◌+◌, ◌<◌, ◌≤◌, Bool, true, false, cond, ◌&&◌, ltb, List, [], ◌∷◌, ◌++◌, length, take, drop, sym, refl, ap, ◌∙◌, ⊎_elim, arith}
 use Rattle.std.proofs.lemmas.List.{take_at, drop_at, drop-drop, length-append}
 use Rattle.std.proofs.lemmas.Bool.{ltb-true, lt-ltb, le-ltb, cond-true, cond-false, false≢true, cases_lt, and_parts, and_from}
-use Rattle.calendar.specs.Instants.{moment}
 use Rattle.model.specs.declared.Row.{Row}
-use Rattle.cells.specs.Cells.{last_of}
 use Rattle.tables.specs.Lines.{ascends}
 use Rattle.journal.specs.declared.journal.Edit.{Edit}
-use Rattle.edits.specs.Changes.{moment_of, first_moment, last_moment, before, behind, between, Change, change_of, restored}
+use Rattle.edits.specs.Changes.{moment_of, first_moment, last_moment, before, behind, between, change_of, restored}
 use Rattle.edits.specs.Checks.{none}
 
 -- the rows ascend, and the first is after x

@@ -1,5 +1,5 @@
 -- What a paste answers, by the place that was found.
-use Rattle.std.proofs.Common.{◌≡◌, ℕ, zero, suc, ◌+◌, ◌-◌, ◌<◌, ◌≤◌, min, Bool, true, false, not, ◌&&◌, ltb, List, [], ◌∷◌, ◌++◌, map, length, get_or, take, drop, Some, None, Ok, Err, Option, sym, refl, ap, ◌∙◌, subst, arith}
+use Rattle.std.proofs.Common.{◌≡◌, ℕ, zero, suc, ◌+◌, ◌-◌, ◌<◌, ◌≤◌, min, Bool, true, false, not, ◌&&◌, ltb, List, [], ◌∷◌, ◌++◌, map, length, get_or, take, drop, Some, None, Ok, Err, sym, refl, ap, ◌∙◌, subst, arith}
 use Rattle.std.proofs.lemmas.List.{drop_more, drop_all}
 use Rattle.std.proofs.lemmas.Bool.{le-ltb, lt-ltb, and_from, and_parts}
 use Rattle.refusal.specs.declared.Refusal.TheVariants.{VelocitiesDiffer, TooManyRows, FlagChanges, TakenRowsExceed}
@@ -19,8 +19,8 @@ use Rattle.reading.specs.Stores.{rows_in, first_flag_of}
 use Rattle.reading.proofs.TrackLaws.{tracks_text}
 use Rattle.journal.specs.declared.journal.Edit.TheVariants.{Paste}
 use Rattle.edits.specs.declared.place.Place.{Place}
-use Rattle.edits.specs.Changes.{Change, moment_of, first_moment, last_moment, before, behind, change_at}
-use Rattle.edits.specs.Checks.{Answer, rules, none, flags_stay, in_order, moving, differ, paste_rules, paste_by, paste_of, paste_checks}
+use Rattle.edits.specs.Changes.{Change, first_moment, last_moment}
+use Rattle.edits.specs.Checks.{rules, none, flags_stay, in_order, moving, differ, paste_rules, paste_by, paste_of, paste_checks}
 use Rattle.edits.specs.Places.{Ready, last_row, last_allows, allows_first}
 use Rattle.edits.specs.Stages.{moving_at}
 use Rattle.edits.proofs.FlagLaws.{never, flag_by, seam, flags_append, flags_take, flags_drop}

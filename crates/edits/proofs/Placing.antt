@@ -1,13 +1,12 @@
 -- An edit by moments is an edit by places.
-use Rattle.std.proofs.Common.{◌≡◌, ℕ, suc, ◌+◌, ◌-◌, ◌<◌, ◌≤◌, true, ltb, leb, List, [], ◌∷◌, ◌++◌, map, length, take, drop, sym, refl, ap, ◌∙◌, ⊎_elim, arith, length-drop, length-take}
+use Rattle.std.proofs.Common.{◌≡◌, ℕ, suc, ◌+◌, ◌-◌, ◌<◌, ◌≤◌, true, List, [], ◌∷◌, ◌++◌, map, length, take, drop, sym, refl, ap, ◌∙◌, ⊎_elim, arith, length-drop, length-take}
 use Rattle.std.proofs.lemmas.List.{take_at, drop_at, length-append, length-map}
 use Rattle.std.proofs.lemmas.Bool.{lt-ltb, le-ltb, le-leb, lt-leb, cases_lt}
-use Rattle.calendar.specs.Instants.{moment}
 use Rattle.model.specs.declared.Row.{Row}
 use Rattle.tables.specs.Lines.{time_of, not_after, earlier, ascends}
 use Rattle.tables.proofs.Orders.{not_after_le}
 use Rattle.journal.specs.declared.journal.Edit.{Edit}
-use Rattle.edits.specs.Changes.{moment_of, before, behind, between, Change, change_of, change_at}
+use Rattle.edits.specs.Changes.{moment_of, before, behind, between, change_of, change_at}
 use Rattle.edits.proofs.Parts.{later, ascends_tail, later_ascends, later_parts, before_in, before_out, before_none, behind_in, behind_out, behind_all, between_low, between_high, split}
 
 none_earlier : (x z : ℕ) (rs : List Row) → x ≤ z → later z rs ≡ true → earlier (map time_of rs) x ≡ 0

@@ -1,5 +1,5 @@
 -- What an edit makes of the rows of a sheet.
-use Rattle.std.specs.Prelude.{ℕ, ◌+◌, ◌-◌, Bool, cond, List, [], ◌∷◌, ◌++◌, length, take, drop, nat_lt}
+use Rattle.std.specs.Prelude.{ℕ, ◌+◌, ◌-◌, cond, List, [], ◌∷◌, ◌++◌, length, take, drop, nat_lt}
 use Rattle.calendar.specs.Instants.{moment}
 use Rattle.model.specs.declared.Row.{Row}
 use Rattle.cells.specs.Cells.{last_of}

@@ -1,5 +1,5 @@
 -- Why a paste or a cut is refused.
-use Rattle.std.specs.Prelude.{ℕ, ◌+◌, ◌*◌, min, Bool, true, false, cond, not, ◌&&◌, ◌||◌, List, [], ◌∷◌, length, Some, None, Ok, Err, Option, Result, nat_lt}
+use Rattle.std.specs.Prelude.{ℕ, ◌+◌, ◌*◌, min, Bool, true, false, cond, not, ◌&&◌, List, [], ◌∷◌, length, Some, None, Ok, Err, Option, Result, nat_lt}
 use Rattle.refusal.specs.declared.Refusal.{Refusal}
 use Rattle.refusal.specs.declared.Refusal.TheVariants.{FlagChanges, TooManyRows, VelocitiesDiffer, TakenRowsExceed, NothingToCut, CutTakesAll, OutsideCalendar}
 use Rattle.calendar.specs.Instants.{in_calendar}

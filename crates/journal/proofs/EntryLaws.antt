@@ -1,5 +1,5 @@
 -- What the moves of a journal leave of its entries.
-use Rattle.std.proofs.Common.{◌≡◌, ℕ, suc, ◌+◌, ◌-◌, ◌<◌, ◌≤◌, List, [], ◌∷◌, ◌++◌, length, get_or, take, drop, set, sym, refl, ap, ◌∙◌, add-one, arith, length-take}
+use Rattle.std.proofs.Common.{◌≡◌, ℕ, suc, ◌+◌, ◌-◌, ◌<◌, ◌≤◌, List, [], ◌∷◌, ◌++◌, length, get_or, take, drop, set, sym, ap, ◌∙◌, add-one, arith, length-take}
 use lib.Seq.{paste}
 use Rattle.std.proofs.lemmas.List.{take-take, take_at, take_more, get_or-take}
 use Rattle.std.proofs.lemmas.List.Edits.{take-paste}

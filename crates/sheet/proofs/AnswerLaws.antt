@@ -1,8 +1,8 @@
 -- What the calls answer.
-use Rattle.std.proofs.Common.{◌≡◌, true, false, not, List, [], ◌∷◌, map, Some, None, Ok, Option, sym, refl, ap, ◌∙◌}
+use Rattle.std.proofs.Common.{◌≡◌, true, not, List, [], ◌∷◌, map, Some, None, Ok, Option, sym, refl, ap}
 use Rattle.std.specs.Option as options
 use Rattle.model.specs.declared.header.Header.{Header}
-use Rattle.edits.specs.Checks.{Answer, rules, none}
+use Rattle.edits.specs.Checks.{Answer, none}
 use Rattle.edits.proofs.RuleLaws.{accepts}
 use Rattle.edits.proofs.FlagLaws.{never}
 use Rattle.refusal.specs.declared.Refusal.TheVariants.{NoFileOpen, JournalEmpty}

@@ -9,10 +9,9 @@ use Rattle.model.specs.declared.Row.{Row}
 use Rattle.memory.proofs.Splice.{splice}
 use Rattle.journal.specs.declared.journal.Edit.{Edit}
 use Rattle.journal.specs.declared.journal.Entry.{Entry}
-use Rattle.journal.specs.Journals.{taken_by, Stay, Keeps, Fitting}
+use Rattle.journal.specs.Journals.{taken_by, Keeps, Fitting}
 use Rattle.edits.specs.declared.place.Place.{Place}
 use Rattle.edits.specs.Changes.{Change, change_at, restored}
-use Rattle.edits.specs.Checks.{in_order}
 use Rattle.edits.specs.Places.{Ready}
 use Rattle.sheet.specs.States.{Past, entry_of}
 use Rattle.sheet.specs.Sound.{pasts_of, is_sound, Sound}

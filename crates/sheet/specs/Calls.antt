@@ -6,7 +6,7 @@ use Rattle.journal.specs.Journals.{Keeps}
 use Rattle.edits.specs.Changes.{Change, restored}
 use Rattle.edits.specs.Checks.{Answer, paste_of, cut_of, joined}
 use Rattle.sheet.specs.Openings.{Contents, opened_from}
-use Rattle.sheet.specs.States.{State, Past, View, entries_in, with_file, changed, open_answer, paste_answer, cut_answer, undo_answer}
+use Rattle.sheet.specs.States.{Past, View, entries_in, with_file, changed, open_answer, paste_answer, cut_answer, undo_answer}
 
 -- an opening replaces what was open and empties the journal; a refused one changes nothing
 abbrev pub after_opening : View → Result Contents Refusal → View

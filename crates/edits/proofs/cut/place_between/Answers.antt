@@ -1,4 +1,4 @@
-use Rattle.std.proofs.Common.{◌≡◌, ◌<◌, ◌≤◌, subst₂, arith}
+use Rattle.std.proofs.Common.{arith}
 use Rattle.calendar.specs.Instants.{moment}
 use Rattle.edits.proofs.CutLaws.{backwards, at_place, nothing, every, exceeds, ready}
 use Rattle.edits.proofs.cut.place_between.Goals as goal

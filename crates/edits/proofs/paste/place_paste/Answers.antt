@@ -1,4 +1,4 @@
-use Rattle.std.proofs.Common.{◌≡◌, ◌+◌, ◌-◌, ◌<◌, ◌≤◌, min, length, sym, ap, ◌∙◌, arith}
+use Rattle.std.proofs.Common.{sym, ◌∙◌, arith}
 use Rattle.edits.proofs.PasteLaws.{no_summary, no_first_flag, velocities, at_place, too_many, first_flag, last_flag, exceeds, ready}
 use Rattle.edits.proofs.paste.place_paste.Goals as goal
 

@@ -1,4 +1,4 @@
-use Rattle.std.proofs.Common.{◌≡◌, length, arith, length-take}
+use Rattle.std.proofs.Common.{arith, length-take}
 use Rattle.journal.proofs.EntryLaws.{added}
 use Rattle.journal.proofs.journal.Journal.add.Goals as goal
 

@@ -1,4 +1,4 @@
-use Rattle.std.proofs.Common.{◌≤◌, min, [], length}
+use Rattle.std.proofs.Common.{min, [], length}
 use Rattle.journal.specs.declared.journal.Edit.TheVariants.{Cut}
 use Rattle.edits.specs.Checks.{cut_of, joined}
 use Rattle.sheet.specs.Sheets.{view, rows_of, row_memory, taken_memory}

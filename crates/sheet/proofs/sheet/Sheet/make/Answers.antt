@@ -1,4 +1,4 @@
-use Rattle.std.proofs.Common.{◌≡◌, ◌+◌, ◌-◌, ◌≤◌, length, take, ap, ◌∙◌, subst, arith, length-take}
+use Rattle.std.proofs.Common.{◌≡◌, ◌+◌, ◌-◌, ◌≤◌, length, take, ◌∙◌, subst, arith}
 use Rattle.reading.specs.Stores.{rows_in}
 use Rattle.journal.specs.Journals.{entries_of, Fitting}
 use Rattle.sheet.specs.Sound.{pasts_of}

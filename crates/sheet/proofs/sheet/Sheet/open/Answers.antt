@@ -1,4 +1,4 @@
-use Rattle.std.proofs.Common.{◌≡◌, ◌+◌, ◌≤◌, min, true, length, take, Some, Ok, sym, refl, ap, ◌∙◌, arith}
+use Rattle.std.proofs.Common.{◌≡◌, ◌≤◌, min, true, length, take, Some, Ok, sym, refl, ap, ◌∙◌, arith}
 use Rattle.std.proofs.lemmas.Bool.{and_parts}
 use Rattle.reading.specs.declared.stage.Part.TheVariants.{File}
 use Rattle.reading.specs.Texts.{scan_of}
@@ -8,7 +8,7 @@ use Rattle.tables.specs.Lines.{ascends}
 use Rattle.edits.specs.Checks.{in_order, flags_stay}
 use Rattle.edits.proofs.OrderLaws.{text_in_order}
 use Rattle.journal.specs.Journals.{entries_of, taken_by}
-use Rattle.sheet.specs.Openings.{Contents, contents_by, opened_from}
+use Rattle.sheet.specs.Openings.{contents_by, opened_from}
 use Rattle.sheet.specs.States.{accepted}
 use Rattle.sheet.specs.Calls.{after_opening}
 use Rattle.sheet.specs.Sheets.{view}

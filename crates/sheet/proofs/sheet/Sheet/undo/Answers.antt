@@ -1,4 +1,4 @@
-use Rattle.std.proofs.Common.{◌≡◌, ◌+◌, ◌-◌, ◌≤◌, length, take, sym, refl, ap, ◌∙◌, arith}
+use Rattle.std.proofs.Common.{◌≡◌, ◌+◌, ◌-◌, ◌≤◌, length, take, refl, ◌∙◌, arith}
 use Rattle.journal.specs.Journals.{entries_of}
 use Rattle.sheet.specs.Sound.{pasts_of}
 use Rattle.sheet.specs.Sheets.{view, state_of}
