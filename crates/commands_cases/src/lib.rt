@@ -144,9 +144,9 @@ mod tests {
 
     #[test]
     fn paths(rt: HostRuntime) {
-        assert!(rt; path_of(b"  open  a.cpf ") == b"a.cpf");
-        assert!(rt; path_of(b"paste \xff\r") == b"\xff\r");
-        assert!(rt; path_of(b"lines b 1 2") == b"b");
+        assert!(rt; path_of(b"  open  a.cpf ") == b"a.cpf".as_slice());
+        assert!(rt; path_of(b"paste \xff\r") == b"\xff\r".as_slice());
+        assert!(rt; path_of(b"lines b 1 2") == b"b".as_slice());
     }
 
     #[test]
