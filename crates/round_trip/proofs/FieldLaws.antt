@@ -5,7 +5,6 @@ use Rattle.std.specs.List.{AllByRecursion as All}
 use Rattle.std.proofs.lemmas.List.{take_at, take_all}
 use Rattle.std.proofs.lemmas.Int.{ints}
 use Rattle.std.proofs.lemmas.Bool.{and_parts, and_from, eqb-true, leb-true, or_cases}
-use Rattle.model.specs.declared.name.Name.{Name}
 use Rattle.model.specs.Names.{name_text, name_of}
 use Rattle.numbers.specs.Values.{whole_of, decimal_of}
 use Rattle.numbers.specs.Texts.{text_of, two_digits}
