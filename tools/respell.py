@@ -3,7 +3,7 @@
 
 usage: python3 tools/respell.py [--list]      at the top of a checkout that port.py has just turned
 It renames what specs/*.antt and proofs/*.antt declare, and the helper lemmas of proof files; the names of goals, which the
-check makes, and the names of src/ stay. --list prints the names and what they become, and changes nothing.
+check makes, and the names of src/ stay. AllByRecursion, which port.py imports as All, is named in full. --list prints the names and what they become, and changes nothing.
 """
 
 import os
@@ -20,6 +20,9 @@ TOKEN = re.compile(r"[^\s(){}:;,.«»=\[\]|λ→×⌜⌝\"`]+")
 # lemmas whose names a definition's new name would fall together with: "a lemma that would have its function's name gets _lem"
 LEMMAS = ["line_step", "not_after", "on_line", "read_stays", "same_second", "two_digits", "whole_word"]
 
+# the library's word that port.py imports under the name of another one, which rt ci refuses: it stands under its own name
+ALIAS = "AllByRecursion as All"
+ALIASED = re.compile(r"(?<![\w.\-'])All(?![\w\-'])")
 # parameters of definitions that are spelled alike
 PARAMETERS = {"endDay": "end_day", "endMicros": "end_micros"}
 
@@ -94,8 +97,11 @@ def main(argv):
     for path in files(root, (".antt", ".rt")):
         with open(path, encoding="utf-8") as f:
             text = f.read()
+        unaliased = text
+        if ALIAS in text:
+            unaliased = ALIASED.sub("AllByRecursion", text.replace(ALIAS, "AllByRecursion"))
         out = []
-        for line in text.split("\n"):
+        for line in unaliased.split("\n"):
             out.append(respell_line(line, path, names if path.endswith(".rt") else in_proofs))
         new = "\n".join(out)
         if new != text:

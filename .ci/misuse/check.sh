@@ -12,8 +12,11 @@ mkdir -p "$copy/crates/lender/src" "$copy/crates/lender/specs"
 echo "lender: refusal model sheet" >> "$copy/crates.txt"
 cd "$copy"
 source=crates/lender/src/lib.rt
+accepted() {
+    (cd crates/lender && rt check) > log 2>&1
+}
 cp "$here/lender.txt" $source
-if ! rt check lender > log 2>&1; then
+if ! accepted; then
     tail -n 20 log
     echo "misuse: lender.txt itself is not accepted"
     exit 1
@@ -24,7 +27,7 @@ for edit in "$here"/*.edit; do
         at = index(text, ENVIRON["OLD"]); if (!at) exit 3
         printf "%s%s%s", substr(text, 1, at - 1), ENVIRON["NEW"], substr(text, at + length(ENVIRON["OLD"]))
     }' "$here/lender.txt" > $source || { echo "misuse: ${edit##*/} does not fit lender.txt"; exit 1; }
-    if rt check lender > log 2>&1 || ! grep -q "error\[$error\]" log; then
+    if accepted || ! grep -q "error\[$error\]" log; then
         grep -E "error" log | head -n 5
         echo "misuse: ${edit##*/} is not refused by $error"
         exit 1

@@ -2,7 +2,7 @@
 use Rattle.std.proofs.Common.{◌≡◌, ℕ, suc, ◌-◌, ◌^◌, ◌<◌, ◌≤◌, Bool, true, false, not, ◌&&◌, eqb, List, [], ◌∷◌, length, ℤ, pos, negsuc, Some, Ok, codes, decimal, refl, ◌∙◌, arith}
 use Rattle.std.specs.Char.{is_ascii_digit}
 use Rattle.std.specs.Fmt.{signed_decimal}
-use Rattle.std.specs.List.{AllByRecursion as All}
+use Rattle.std.specs.List.{AllByRecursion}
 use Rattle.std.specs.Str.{all_ascii_digits}
 use Rattle.std.proofs.lemmas.Fmt.{decimal_nonempty, digits_decimal, digits_value-decimal}
 use Rattle.std.proofs.lemmas.Bool.{and_parts, eqb-false, le-leb, not-true}
@@ -39,7 +39,7 @@ solid : List ℕ → Bool
 solid [] = true
 solid (b ∷ bs) = not (eqb b 32) && solid bs
 
-no_space : (w : List ℕ) → solid w ≡ true → All (λ b. b ≡ 32 → ⊥) w
+no_space : (w : List ℕ) → solid w ≡ true → AllByRecursion (λ b. b ≡ 32 → ⊥) w
 unfolding solid
 no_space [] s = tt
 no_space (b ∷ bs) s = (λ e. eqb-false b 32 (not-true _ (and_parts _ _ s).0) e, no_space bs (and_parts _ _ s).1)
@@ -59,16 +59,16 @@ shift_word : (v : ℤ) → GoodShift v → OneWord (signed_decimal v)
 shift_word (pos n) h = number_word n (omega arith)
 shift_word (negsuc n) h = let d = number_word (suc n) (omega arith) in (omega arith, ((λ e. omega arith), d.1))
 
-line_is : (ws : List (List ℕ)) → All OneWord ws → is_comment (spaced ws) ≡ false → command_of (spaced ws) ≡ by_words ws
+line_is : (ws : List (List ℕ)) → AllByRecursion OneWord ws → is_comment (spaced ws) ≡ false → command_of (spaced ws) ≡ by_words ws
 line_is ws all c = rw (c, words_spaced ws all)
 
 rows_word : (n : ℕ) → n ≤ 8192 → OneWord (decimal n)
 rows_word n h = number_word n (omega arith)
 
-moment_words : (m : Moment) → GoodMoment m → (ws : List (List ℕ)) → All OneWord ws → All OneWord (moment_text m ws)
+moment_words : (m : Moment) → GoodMoment m → (ws : List (List ℕ)) → AllByRecursion OneWord ws → AllByRecursion OneWord (moment_text m ws)
 moment_words m g ws all = (number_word m.day (omega (arith, g.0)), (number_word m.micros g.1, all))
 
-shifts_words : (s : Shifts) → GoodShifts s → All OneWord (shifts_text s)
+shifts_words : (s : Shifts) → GoodShifts s → AllByRecursion OneWord (shifts_text s)
 shifts_words Unshifted g = tt
 shifts_words (One a) g = (shift_word a g, tt)
 shifts_words (Two a b) g = (shift_word a g.0, (shift_word b g.1, tt))

@@ -2,7 +2,7 @@
 use Rattle.std.specs.Prelude.{◌≡◌, ℕ, ◌^◌, ◌<◌, ◌≤◌, List, [], ◌∷◌, ◌++◌, length, ℤ, Ok, codes, decimal, ◌≢◌}
 use Rattle.std.specs.Int.Signed.{mag}
 use Rattle.std.specs.Fmt.{signed_decimal}
-use Rattle.std.specs.List.{AllByRecursion as All}
+use Rattle.std.specs.List.{AllByRecursion}
 use Rattle.commands.specs.declared.command.Moment.{Moment}
 use Rattle.commands.specs.declared.command.Shifts.{Shifts}
 use Rattle.commands.specs.declared.command.Shifts.TheVariants.{Unshifted, One, Two, Three}
@@ -43,7 +43,7 @@ spaced (w ∷ (v ∷ ws)) = w ++ (32 ∷ spaced (v ∷ ws))
 
 -- some bytes, and no space
 abbrev pub OneWord : List ℕ → Type 0
-OneWord w = (1 ≤ length w) × All (λ b. b ≢ 32) w
+OneWord w = (1 ≤ length w) × AllByRecursion (λ b. b ≢ 32) w
 
 abbrev pub GoodMoment : Moment → Type 0
 GoodMoment m = (m.day < 2 ^ 32) × (m.micros < 2 ^ 64)

@@ -1,6 +1,6 @@
 -- Which words are numbers, and which.
 use Rattle.std.specs.Prelude.{◌≡◌, ℕ, ◌≤◌, Bool, List, ◌++◌, length, ℤ, Some}
-use Rattle.std.specs.List.{AllByRecursion as All}
+use Rattle.std.specs.List.{AllByRecursion}
 use Rattle.numbers.specs.Shapes.{Digit}
 use Rattle.numbers.specs.Parts.{SignText}
 use Rattle.numbers.specs.Values.{digits_value, signed_value}
@@ -8,7 +8,7 @@ use Rattle.commands.specs.Numerals.{numeral_of, most_of, signed_of}
 
 -- the word w is one or more digits, which write the number n
 pub record IsNumeral (w : List ℕ) (n : ℕ) : Type 0 where
-  pub digits : All Digit w
+  pub digits : AllByRecursion Digit w
   pub some : 1 ≤ length w
   pub value : n ≡ digits_value w
 

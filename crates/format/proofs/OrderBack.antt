@@ -1,6 +1,6 @@
 -- Entries in the order of the format are read to the end.
 use Rattle.std.proofs.Common.{◌≡◌, ℕ, true, List, [], ◌∷◌, ◌++◌, Some, None, Ok, Option, sym, refl, ap, ◌∙◌, subst}
-use Rattle.std.specs.List.{AllByRecursion as All}
+use Rattle.std.specs.List.{AllByRecursion}
 use Rattle.model.specs.declared.Row.{Row}
 use Rattle.model.specs.declared.header.Header.{Header}
 use Rattle.cells.specs.declared.summary.Summary.{Summary}
@@ -59,13 +59,13 @@ module _ (k : Source) (h : Header) (p : Span) where
     pub stage : Stage
     pub done : rows_done stage ≡ true
     pub scanned : Scanned es (state k at.H9 h p None) (state k stage h p (summary_if rows))
-    pub inside : All Inner es
+    pub inside : AllByRecursion Inner es
 
-  plain_inside : (ps : List (List Value)) → All Inner (positions ps)
+  plain_inside : (ps : List (List Value)) → AllByRecursion Inner (positions ps)
   plain_inside [] = tt
   plain_inside (q ∷ ps) = (refl, plain_inside ps)
 
-  moving_inside : (ps : List Both) → All Inner (pairs ps)
+  moving_inside : (ps : List Both) → AllByRecursion Inner (pairs ps)
   moving_inside [] = tt
   moving_inside (q ∷ ps) = (refl, (refl, moving_inside ps))
 
@@ -120,25 +120,25 @@ header_on k h1 h2 (Some a) None body u c = (_, hop _ _ rec.H2 h2 at.H2 refl refl
 header_on k h1 h2 (Some a) (Some f) body u c =
     (_, hop _ _ rec.H2 h2 at.H2 refl refl (λ b. never (cc)), (_, hop _ _ rec.H3 a at.H3 refl refl (λ b. never (cc)), (_, hop _ _ rec.H5 f at.H5 refl refl (λ b. never (cc)), (_, hop _ _ rec.H9 [] at.H9 refl refl (λ b. refl), c))))
 
-header_inside : (h2 : List Value) (h3 h5 : Option (List Value)) (body : List Entry) → All Inner body → All Inner (entry rec.H2 h2 ∷ maybe rec.H3 h3 (maybe rec.H5 h5 (entry rec.H9 [] ∷ body)))
+header_inside : (h2 : List Value) (h3 h5 : Option (List Value)) (body : List Entry) → AllByRecursion Inner body → AllByRecursion Inner (entry rec.H2 h2 ∷ maybe rec.H3 h3 (maybe rec.H5 h5 (entry rec.H9 [] ∷ body)))
 header_inside h2 None None body i = (refl, (refl, i))
 header_inside h2 None (Some f) body i = (refl, (refl, (refl, i)))
 header_inside h2 (Some a) None body i = (refl, (refl, (refl, i)))
 header_inside h2 (Some a) (Some f) body i = (refl, (refl, (refl, (refl, i))))
 
 -- comments may stand anywhere between H1 and the trailer, and in a block anywhere
-with_comments : (es : List Entry) (s u : Scan) → is_open s.stage ≡ true → All Inner (without_comments es) → Scanned (without_comments es) s u → Scanned es s u
+with_comments : (es : List Entry) (s u : Scan) → is_open s.stage ≡ true → AllByRecursion Inner (without_comments es) → Scanned (without_comments es) s u → Scanned es s u
 with_comments [] s u o i c = c
 with_comments (e ∷ es) s u o i c =
     by_bool (is_comment e.type)
     (λ h. let w = is_comment_lem e.type h in
-    let j : All Inner (without_comments es) = rw h at i in
+    let j : AllByRecursion Inner (without_comments es) = rw h at i in
     let d : Scanned (without_comments es) s u = rw h at c in (
       s,
       record { stage = s.stage; next = s; place = ap (next_stage s.part s.stage) w ∙ comment_stays s.stage o; content = ap (λ t. taken 0 s t e.values) w; is = refl; bare = λ n b. never (let z = sym h ∙ n in cc) },
       with_comments es s u o j d,
     ))
-    (λ h. let j : All Inner (e ∷ without_comments es) = rw h at i in
+    (λ h. let j : AllByRecursion Inner (e ∷ without_comments es) = rw h at i in
     let d : Scanned (e ∷ without_comments es) s u = rw h at c in
     (d.0, d.1, with_comments es d.0 u (follows_open s d.0 e j.0 d.1) j.1 d.2))
 
@@ -154,7 +154,7 @@ order_complete k h1 h2 h3 h5 middle body rows e made c =
     let from = after_origin (file k) (origin_of h1) in
     let r = read_rows (file k) h (span_of h2) body rows made c in
     let v = state (file k) r.stage h (span_of h2) (summary_if rows) in
-    let i = subst (All Inner) (sym e) (header_inside h2 h3 h5 body r.inside) in
+    let i = subst (AllByRecursion Inner) (sym e) (header_inside h2 h3 h5 body r.inside) in
     let d = subst (λ l. Scanned l from v) (sym e) (header_on (file k) h1 h2 h3 h5 body v r.scanned) in
     let done = r.done in
     let place : next_stage part.File r.stage rec.Trailer ≡ Some at.End = rw done in

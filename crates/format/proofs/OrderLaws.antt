@@ -1,6 +1,6 @@
 -- The entries of a file or a block that is read stand in the order of the format.
 use Rattle.std.proofs.Common.{◌≡◌, ℕ, true, false, cond, List, [], ◌∷◌, ◌++◌, Some, None, Ok, Err, Option, Result, sym, refl, ap, ◌∙◌, subst}
-use Rattle.std.specs.List.{AllByRecursion as All}
+use Rattle.std.specs.List.{AllByRecursion}
 use Rattle.refusal.specs.declared.Refusal.{Refusal}
 use Rattle.model.specs.declared.Row.{Row}
 use Rattle.model.specs.declared.header.Header.{Header}
@@ -61,7 +61,7 @@ follows_open s v e i f = ap (λ z. is_open z.stage) f.is ∙ goes_open s.part e.
 
 -- the entries without their comments take the scan from s to u as well
 record Bare (es : List Entry) (s u : Scan) : Type 0 where
-  pub inside : All Inner (without_comments es)
+  pub inside : AllByRecursion Inner (without_comments es)
   pub scanned : Scanned (without_comments es) s u
 
 comment_same : (s v : Scan) (e : Entry) → is_open s.stage ≡ true → e.type ≡ rec.Comment → Follows s v e → v ≡ s
@@ -159,7 +159,7 @@ record Plain (k : Source) (h : Header) (p : Span) (m : Summary) (u : Scan) (es :
   pub span : u.span ≡ p
   pub summary : u.summary ≡ Some (extended_by m (position_rows more))
 
-in_plain : (es : List Entry) (k : Source) (h : Header) (p : Span) (m : Summary) (u : Scan) → All Inner es → Scanned es (state k at.Position h p (Some m)) u → Plain k h p m u es
+in_plain : (es : List Entry) (k : Source) (h : Header) (p : Span) (m : Summary) (u : Scan) → AllByRecursion Inner es → Scanned es (state k at.Position h p (Some m)) u → Plain k h p m u es
 in_plain [] k h p m u i c = record { more = []; are = refl; chain = tt; header = ap (λ z. z.header) (sym c); span = ap (λ z. z.span) (sym c); summary = ap (λ z. z.summary) (sym c) }
 in_plain (e ∷ es) k h p m u i c =
     from_position k.part (λ t st. (next : Scan) → taken 0 (state k at.Position h p (Some m)) t e.values ≡ Ok next → c.0 ≡ with_stage st next → Plain k h p m u (entry t e.values ∷ es))
@@ -189,7 +189,7 @@ record Moving (k : Source) (h : Header) (p : Span) (m : Summary) (u : Scan) (es 
 not_done : {P : Type 0} (s u : Scan) → rows_done s.stage ≡ false → s ≡ u → rows_done u.stage ≡ true → P
 not_done s u f e d = never (let q = sym f ∙ ap (λ z. rows_done z.stage) e ∙ d in cc)
 
-in_moving : (es : List Entry) (k : Source) (h : Header) (p : Span) (m : Summary) (u : Scan) → All Inner es → Scanned es (state k at.Velocity h p (Some m)) u → rows_done u.stage ≡ true → Moving k h p m u es
+in_moving : (es : List Entry) (k : Source) (h : Header) (p : Span) (m : Summary) (u : Scan) → AllByRecursion Inner es → Scanned es (state k at.Velocity h p (Some m)) u → rows_done u.stage ≡ true → Moving k h p m u es
 in_moving [] k h p m u i c d = record { more = []; are = refl; chain = tt; header = ap (λ z. z.header) (sym c); span = ap (λ z. z.span) (sym c); summary = ap (λ z. z.summary) (sym c) }
 in_moving (e ∷ []) k h p m u i c d =
     from_velocity k.part (λ t st. (next : Scan) → c.0 ≡ with_stage st next → Moving k h p m u (entry t e.values ∷ []))
@@ -229,7 +229,7 @@ pub record RowsOf (k : Source) (h : Header) (p : Span) (u : Scan) (es : List Ent
   pub span : u.span ≡ p
   pub summary : u.summary ≡ summary_if rows
 
-second : (es : List Entry) (k : Source) (h : Header) (p : Span) (vs : List Value) (u : Scan) → RoomAfter k 0 → All Inner es → Scanned es (state k at.FirstPosition h p (Some (cells.started (row_of vs)))) u → rows_done u.stage ≡ true
+second : (es : List Entry) (k : Source) (h : Header) (p : Span) (vs : List Value) (u : Scan) → RoomAfter k 0 → AllByRecursion Inner es → Scanned es (state k at.FirstPosition h p (Some (cells.started (row_of vs)))) u → rows_done u.stage ≡ true
     → RowsOf k h p u (entry rec.Position vs ∷ es)
 second [] k h p vs u y i c d =
     record { rows = row_of vs ∷ []; made = plain (vs ∷ []) refl refl; chain = (y, tt); header = ap (λ z. z.header) (sym c); span = ap (λ z. z.span) (sym c); summary = ap (λ z. z.summary) (sym c) }
@@ -260,7 +260,7 @@ second (e ∷ es) k h p vs u y i c d =
     })
     e.type c.1.stage i.0 c.1.place c.1.next c.1.content c.1.is
 
-in_rows : (es : List Entry) (k : Source) (h : Header) (p : Span) (u : Scan) → All Inner es → Scanned es (state k at.H9 h p None) u → rows_done u.stage ≡ true → RowsOf k h p u es
+in_rows : (es : List Entry) (k : Source) (h : Header) (p : Span) (u : Scan) → AllByRecursion Inner es → Scanned es (state k at.H9 h p None) u → rows_done u.stage ≡ true → RowsOf k h p u es
 in_rows [] k h p u i c d = not_done (state k at.H9 h p None) u refl c d
 in_rows (e ∷ es) k h p u i c d =
     from_h9 k.part (λ t st. (next : Scan) → taken 0 (state k at.H9 h p None) t e.values ≡ Ok next → c.0 ≡ with_stage st next → RowsOf k h p u (entry t e.values ∷ es))
@@ -278,7 +278,7 @@ record AfterH5 (k : Source) (h : Header) (p : Span) (u : Scan) (es : List Entry)
   pub is : es ≡ entry rec.H9 [] ∷ body
   pub rows : RowsOf k h p u body
 
-in_h5 : (es : List Entry) (k : Source) (h : Header) (p : Span) (u : Scan) → All Inner es → Scanned es (state k at.H5 h p None) u → rows_done u.stage ≡ true → AfterH5 k h p u es
+in_h5 : (es : List Entry) (k : Source) (h : Header) (p : Span) (u : Scan) → AllByRecursion Inner es → Scanned es (state k at.H5 h p None) u → rows_done u.stage ≡ true → AfterH5 k h p u es
 in_h5 [] k h p u i c d = not_done (state k at.H5 h p None) u refl c d
 in_h5 (e ∷ es) k h p u i c d =
     let s = state k at.H5 h p None in
@@ -293,7 +293,7 @@ record AfterH3 (k : Source) (o : Origin) (s : Satellite) (a : Option Accuracy) (
   pub is : es ≡ maybe rec.H5 h5 (entry rec.H9 [] ∷ body)
   pub rows : RowsOf k (head o s a (offset_if h5)) p u body
 
-in_h3 : (es : List Entry) (k : Source) (o : Origin) (s : Satellite) (a : Option Accuracy) (p : Span) (u : Scan) → All Inner es → Scanned es (state k at.H3 (head o s a None) p None) u → rows_done u.stage ≡ true → AfterH3 k o s a p u es
+in_h3 : (es : List Entry) (k : Source) (o : Origin) (s : Satellite) (a : Option Accuracy) (p : Span) (u : Scan) → AllByRecursion Inner es → Scanned es (state k at.H3 (head o s a None) p None) u → rows_done u.stage ≡ true → AfterH3 k o s a p u es
 in_h3 [] k o s a p u i c d = not_done (state k at.H3 (head o s a None) p None) u refl c d
 in_h3 (e ∷ es) k o s a p u i c d =
     let at3 = state k at.H3 (head o s a None) p None in
@@ -312,7 +312,7 @@ record AfterH2 (k : Source) (o : Origin) (s : Satellite) (p : Span) (u : Scan) (
   pub is : es ≡ maybe rec.H3 h3 (maybe rec.H5 h5 (entry rec.H9 [] ∷ body))
   pub rows : RowsOf k (head o s (accuracy_if h3) (offset_if h5)) p u body
 
-in_h2 : (es : List Entry) (k : Source) (o : Origin) (s : Satellite) (p : Span) (u : Scan) → All Inner es → Scanned es (state k at.H2 (head o s None None) p None) u → rows_done u.stage ≡ true → AfterH2 k o s p u es
+in_h2 : (es : List Entry) (k : Source) (o : Origin) (s : Satellite) (p : Span) (u : Scan) → AllByRecursion Inner es → Scanned es (state k at.H2 (head o s None None) p None) u → rows_done u.stage ≡ true → AfterH2 k o s p u es
 in_h2 [] k o s p u i c d = not_done (state k at.H2 (head o s None None) p None) u refl c d
 in_h2 (e ∷ es) k o s p u i c d =
     let at2 = state k at.H2 (head o s None None) p None in
@@ -338,7 +338,7 @@ record AfterH1 (k : Source) (o : Origin) (u : Scan) (es : List Entry) : Type 0 w
 abbrev pub after_origin : Source → Origin → Scan
 after_origin k o = state k at.H1 (head o (satellite_of []) None None) (span_of []) None
 
-in_h1 : (es : List Entry) (k : Source) (o : Origin) (u : Scan) → All Inner es → Scanned es (after_origin k o) u → rows_done u.stage ≡ true → AfterH1 k o u es
+in_h1 : (es : List Entry) (k : Source) (o : Origin) (u : Scan) → AllByRecursion Inner es → Scanned es (after_origin k o) u → rows_done u.stage ≡ true → AfterH1 k o u es
 in_h1 [] k o u i c d = not_done (after_origin k o) u refl c d
 in_h1 (e ∷ es) k o u i c d =
     from_h1 k.part (λ t st. (next : Scan) → taken 0 (after_origin k o) t e.values ≡ Ok next → c.0 ≡ with_stage st next → AfterH1 k o u (entry t e.values ∷ es))

@@ -1,6 +1,6 @@
 -- Rows that follow one another, by their summary and by the rows themselves.
 use Rattle.std.proofs.Common.{◌≡◌, ℕ, ◌+◌, ◌<◌, ◌≤◌, Bool, true, false, cond, leb, ◌⊎◌, List, [], ◌∷◌, ◌++◌, length, Some, None, Ok, Err, Option, Result, sym, refl, ap, ◌∙◌, subst, inl, inr, append_assoc, append-nil, arith}
-use Rattle.std.specs.List.{AllByRecursion as All}
+use Rattle.std.specs.List.{AllByRecursion}
 use Rattle.std.proofs.lemmas.Bool.{leb-false, lt-leb}
 use Rattle.refusal.specs.declared.Refusal.{Refusal}
 use Rattle.refusal.specs.declared.Refusal.TheVariants.{TooManyRows, NotAfter, FlagChanges}
@@ -94,7 +94,7 @@ Chain k m [] = Unit {0}
 Chain k m (r ∷ rs) = May k m r × Chain k (extended m r) rs
 
 abbrev Later : Instant → List Row → Type 0
-Later i rs = All (λ s. moment i < moment s.at) rs
+Later i rs = AllByRecursion (λ s. moment i < moment s.at) rs
 
 all_later : (i j : Instant) (rs : List Row) → moment i < moment j → Later j rs → Later i rs
 all_later i j [] h a = tt
@@ -107,7 +107,7 @@ chain_ascends k m (r ∷ rs) c =
     ((c.0.after, all_later m.last r.at rs c.0.after q.0), (q.0, q.1))
 
 abbrev Stays : LeapFlag → List Row → Type 0
-Stays f rs = (f ≡ NoLeap) ⊎ All (λ s. s.flag ≡ f) rs
+Stays f rs = (f ≡ NoLeap) ⊎ AllByRecursion (λ s. s.flag ≡ f) rs
 
 allows_cases : (f g : LeapFlag) → allows f g ≡ true → (f ≡ NoLeap) ⊎ (g ≡ f)
 allows_cases NoLeap g h = inl refl
@@ -126,7 +126,7 @@ same_allows Added = refl
 stays_more : (f g : LeapFlag) (r : Row) (rs : List Row) → r.flag ≡ g → (f ≡ NoLeap) ⊎ (g ≡ f) → Stays g rs → Stays f (r ∷ rs)
 stays_more f g r rs e (inl h) s = inl h
 stays_more f g r rs e (inr h) (inl n) = inl (sym h ∙ n)
-stays_more f g r rs e (inr h) (inr a) = inr (e ∙ h, subst (λ z. All (λ s. s.flag ≡ z) rs) h a)
+stays_more f g r rs e (inr h) (inr a) = inr (e ∙ h, subst (λ z. AllByRecursion (λ s. s.flag ≡ z) rs) h a)
 
 pub chain_flags : (k : Source) (m : Summary) (rs : List Row) → Chain k m rs → Stays m.flag rs × FlagsStay rs
 chain_flags k m [] c = (inr tt, tt)

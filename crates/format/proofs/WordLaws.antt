@@ -1,7 +1,7 @@
 -- A word is read just where it is a word of its field, and a record just where its words are.
 use Rattle.std.proofs.Common.{◌≡◌, ℕ, ◌+◌, ◌≤◌, Bool, true, cond, ◌&&◌, ◌||◌, eqb, leb, List, [], ◌∷◌, ◌++◌, length, ℤ, pos, ◌≤ℤ◌, Some, None, Ok, Err, Option, Result, sym, refl, ap, ◌∙◌, inl, inr, ⊎_elim, append_assoc, append-nil, arith}
 use lib.Signed.{le_z}
-use Rattle.std.specs.List.{AllByRecursion as All}
+use Rattle.std.specs.List.{AllByRecursion}
 use Rattle.std.proofs.lemmas.Bool.{eqb-true, leb-true, le-leb, and_parts, and_from, or_cases, or_left, or_right}
 use Rattle.refusal.specs.declared.Refusal.{Refusal}
 use Rattle.model.specs.Names.{name_of}
@@ -35,11 +35,11 @@ is_name_byte_lem b (inl u) = or_left (leb 65 b && leb b 90) ((leb 97 b && leb b 
 is_name_byte_lem b (inr (inl u)) = or_right (leb 65 b && leb b 90) ((leb 97 b && leb b 122) || (leb 48 b && leb b 57)) (or_left (leb 97 b && leb b 122) (leb 48 b && leb b 57) (is_between 97 122 b u))
 is_name_byte_lem b (inr (inr u)) = or_right (leb 65 b && leb b 90) ((leb 97 b && leb b 122) || (leb 48 b && leb b 57)) (or_right (leb 97 b && leb b 122) (leb 48 b && leb b 57) (is_between 48 57 b u))
 
-name_bytes : (w : List ℕ) → all_name_bytes w ≡ true → All NameByte w
+name_bytes : (w : List ℕ) → all_name_bytes w ≡ true → AllByRecursion NameByte w
 name_bytes [] h = tt
 name_bytes (b ∷ w) h = let p = and_parts (is_name_byte b) (all_name_bytes w) h in (name_byte b p.0, name_bytes w p.1)
 
-are_name_bytes : (w : List ℕ) → All NameByte w → all_name_bytes w ≡ true
+are_name_bytes : (w : List ℕ) → AllByRecursion NameByte w → all_name_bytes w ≡ true
 are_name_bytes [] h = refl
 are_name_bytes (b ∷ w) h = and_from (is_name_byte b) (all_name_bytes w) (is_name_byte_lem b h.0) (are_name_bytes w h.1)
 

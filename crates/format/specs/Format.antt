@@ -1,6 +1,6 @@
 -- The file format: which texts are files, and what header and rows they have.
 use Rattle.std.specs.Prelude.{◌≡◌, ℕ, ◌+◌, ◌<◌, ◌≤◌, true, false, cond, ◌⊎◌, List, [], ◌∷◌, ◌++◌, length, ℤ, pos, ◌≤ℤ◌, Some, None, Option}
-use Rattle.std.specs.List.{AllByRecursion as All}
+use Rattle.std.specs.List.{AllByRecursion}
 use Rattle.calendar.specs.Instants.{moment}
 use Rattle.model.specs.Names.{name_of}
 use Rattle.model.specs.declared.LeapFlag.TheVariants.{NoLeap}
@@ -35,12 +35,12 @@ abbrev pub Printable : ℕ → Type 0
 Printable b = (32 ≤ b) × (b ≤ 126)
 
 pub record IsLine (l : List ℕ) : Type 0 where
-  pub printable : All Printable l
+  pub printable : AllByRecursion Printable l
   pub short : length l ≤ 128
 
 pub record IsText (bs : List ℕ) (ls : List (List ℕ)) : Type 0 where
   pub bytes : bs ≡ unlines ls
-  pub lines : All IsLine ls
+  pub lines : AllByRecursion IsLine ls
 
 -- the first two bytes of a record, its type: H1, H2, H3, H5, H9, 10, 20, 00 and 99
 abbrev pub type_bytes : Record → List ℕ
@@ -65,7 +65,7 @@ Within f z = (f.least ≤ℤ z) × (z ≤ℤ f.greatest)
 -- w is a word of a field of the form given, after words with the values before, and v is its value
 abbrev pub IsWordBy : Form → Field → List ℕ → List Value → Value → Type 0
 IsWordBy form.Cpf f w before v = (w ≡ 67 ∷ (80 ∷ (70 ∷ []))) × (v ≡ Text (name_of w))
-IsWordBy form.Name f w before v = All NameByte w × Within f (pos (length w)) × (v ≡ Text (name_of w))
+IsWordBy form.Name f w before v = AllByRecursion NameByte w × Within f (pos (length w)) × (v ≡ Text (name_of w))
 IsWordBy form.Note f w before v = Within f (pos (length w)) × (v ≡ Text (name_of w))
 IsWordBy form.Whole f w before v = (z : ℤ) × IsWhole w z × Within f z × (v ≡ Number z)
 IsWordBy form.DayOfMonth f w before v = (z : ℤ) × IsWhole w z × Within f z × (z ≤ℤ pos (last_day before)) × (v ≡ Number z)
@@ -167,12 +167,12 @@ offset_if (Some vs) = Some (offset_of vs)
 -- every later row comes later in time
 abbrev pub Ascend : List Row → Type 0
 Ascend [] = Unit {0}
-Ascend (r ∷ rs) = All (λ s. moment r.at < moment s.at) rs × Ascend rs
+Ascend (r ∷ rs) = AllByRecursion (λ s. moment r.at < moment s.at) rs × Ascend rs
 
 -- after a row with a leap flag every later row has that flag
 abbrev pub FlagsStay : List Row → Type 0
 FlagsStay [] = Unit {0}
-FlagsStay (r ∷ rs) = ((r.flag ≡ NoLeap) ⊎ All (λ s. s.flag ≡ r.flag) rs) × FlagsStay rs
+FlagsStay (r ∷ rs) = ((r.flag ≡ NoLeap) ⊎ AllByRecursion (λ s. s.flag ≡ r.flag) rs) × FlagsStay rs
 
 -- there is a row, and H2 states start, end and interval of the rows
 abbrev pub Stated : List Value → List Row → Type 0

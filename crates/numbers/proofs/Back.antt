@@ -1,7 +1,7 @@
 -- What is written is read back.
 use Rattle.std.proofs.Common.{◌≡◌, ℕ, zero, suc, ◌+◌, ◌-◌, ◌*◌, ◌/◌, ◌%◌, ◌^◌, ◌<◌, ◌≤◌, Bool, true, false, ◌⊎◌, List, [], ◌∷◌, ◌++◌, pos, negsuc, decimal, sym, refl, ap, ◌∙◌, inl, inr, append-nil, mul_assoc, div-lt_iff_lt-mul, pow-suc, mul-one, div-one, arith, pow-add}
 use native.Mathlib.Nat.{div-div-eq-div-mul, one-le-pow, pow-succ'}
-use Rattle.std.specs.List.{AllByRecursion as All}
+use Rattle.std.specs.List.{AllByRecursion}
 use Rattle.std.proofs.lemmas.Fmt.{decimal_nonempty, digits_decimal, digits_value-decimal, length-decimal-le}
 use Rattle.std.proofs.ByRecursion.{All-push}
 use Rattle.std.proofs.lemmas.Int.{ints}
@@ -19,7 +19,7 @@ after_push : (m : ℕ) (ds : List ℕ) (c : ℕ) → digits_after m (ds ++ (c �
 after_push m [] c = refl
 after_push m (x ∷ ds) c = after_push (m * 10 + (x - 48)) ds c
 
-pub digits_last : (d n : ℕ) → All Digit (last_digits d n)
+pub digits_last : (d n : ℕ) → AllByRecursion Digit (last_digits d n)
 digits_last zero n = tt
 digits_last (suc d) n = All-push Digit (last_digits d (n / 10)) (48 + n % 10) (digits_last d (n / 10)) (omega arith, omega arith)
 

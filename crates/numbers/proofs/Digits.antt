@@ -1,14 +1,14 @@
 -- What digits write.
 use Rattle.std.proofs.Common.{◌≡◌, ℕ, ◌+◌, ◌-◌, ◌*◌, ◌^◌, ◌<◌, ◌≤◌, List, length, get_or, drop, sym, ap, ◌∙◌, mul-le-mul_right, add-mul, mul-le-mul, arith, pow-add, rules}
 use native.Mathlib.Nat.{one-le-pow}
-use Rattle.std.specs.List.{AllByRecursion as All}
+use Rattle.std.specs.List.{AllByRecursion}
 use Rattle.std.proofs.lemmas.List.{at_drop_more, at_drop_all}
 use Rattle.std.proofs.lemmas.Str.Parse.{IsNumeralModel, numerals_by_fold}
 use Rattle.numbers.specs.Shapes.{Digit}
 use Rattle.numbers.specs.Values.{digits_after, digits_value}
 use Rattle.numbers.proofs.Powers.{pow_more, pow_le}
 
-pub own : IsNumeralModel (All Digit) digits_value
+pub own : IsNumeralModel (AllByRecursion Digit) digits_value
 own = numerals_by_fold _ (search rules) digits_after (search rules)
 
 pub after_more : (n : ℕ) (xs : List ℕ) (i : ℕ) → i < length xs → digits_after n (drop i xs) ≡ digits_after (n * 10 + (get_or xs i 0 - 48)) (drop (i + 1) xs)

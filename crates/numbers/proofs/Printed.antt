@@ -1,6 +1,6 @@
 -- The text of a number is one word, and not too long for its field.
 use Rattle.std.proofs.Common.{◌≡◌, ℕ, zero, suc, ◌+◌, ◌/◌, ◌^◌, ◌<◌, ◌≤◌, List, length, ℤ, pos, negsuc, nat_abs, ◌≤ℤ◌, decimal, arith}
-use Rattle.std.specs.List.{AllByRecursion as All}
+use Rattle.std.specs.List.{AllByRecursion}
 use Rattle.std.proofs.lemmas.Fmt.{digits_decimal, length-decimal-le}
 use Rattle.std.proofs.ByRecursion.{All-append, All-weaker}
 use Rattle.std.proofs.lemmas.List.{length-append, length-replicate}
@@ -12,14 +12,14 @@ use Rattle.numbers.proofs.Back.{digits_last, whole_below}
 use Rattle.numbers.proofs.Digits.{own}
 use Rattle.numbers.proofs.Lengths.{fraction_le, length_last, length_unsigned, unsigned_some, whole_le}
 
-printable_digits : (ds : List ℕ) → All Digit ds → All Printable ds
+printable_digits : (ds : List ℕ) → AllByRecursion Digit ds → AllByRecursion Printable ds
 printable_digits ds h = All-weaker Digit Printable (λ b k. (omega arith, omega arith)) ds h
 
-printable_fraction : (d n : ℕ) → All Printable (fraction_text d n)
+printable_fraction : (d n : ℕ) → AllByRecursion Printable (fraction_text d n)
 printable_fraction zero n = tt
 printable_fraction (suc d) n = ((omega arith, omega arith), printable_digits (last_digits (suc d) n) (digits_last (suc d) n))
 
-printable_unsigned : (n d : ℕ) → n < 2 ^ 64 → All Printable (unsigned_text n d)
+printable_unsigned : (n d : ℕ) → n < 2 ^ 64 → AllByRecursion Printable (unsigned_text n d)
 printable_unsigned n d h =
     let q = n / 10 ^ d in
     All-append Printable (decimal q) (fraction_text d n) (printable_digits (decimal q) (digits_decimal own q (whole_le n d h))) (printable_fraction d n)

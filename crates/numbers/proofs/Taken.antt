@@ -1,6 +1,6 @@
 -- A word's parts and its form: each follows from the other.
 use Rattle.std.proofs.Common.{◌≡◌, ℕ, suc, ◌+◌, ◌≤◌, Bool, true, false, ◌&&◌, eqb, leb, List, [], ◌∷◌, ◌++◌, length, take, drop, sym, refl, ap, ◌∙◌, subst, inl, inr, arith}
-use Rattle.std.specs.List.{AllByRecursion as All}
+use Rattle.std.specs.List.{AllByRecursion}
 use Rattle.std.proofs.lemmas.List.{take-append-drop, take_at, drop_at, length-take-le}
 use Rattle.std.proofs.lemmas.Bool.{eq-eqb, ne_eqb, eqb-true, le-leb, leb-true, and_parts, and_from, cond_both}
 use Rattle.numbers.specs.Shapes.{is_digit, Digit, digit_run, has_minus, without_sign, Shape, whole_word, decimal_word, text_word, by_rest, word_of}
@@ -22,25 +22,25 @@ run_le : (xs : List ℕ) → digit_run xs ≤ length xs
 run_le [] = omega arith
 run_le (b ∷ xs) = cond_both (is_digit b) (1 + digit_run xs) 0 (λ n. n ≤ suc (length xs)) (λ e. omega (arith, run_le xs)) (λ e. omega arith)
 
-run_digits : (xs : List ℕ) → All Digit (take (digit_run xs) xs)
+run_digits : (xs : List ℕ) → AllByRecursion Digit (take (digit_run xs) xs)
 run_digits [] = tt
 run_digits (b ∷ xs) =
     by_bool (is_digit b)
     (λ e. let s : 1 + digit_run xs ≡ suc (digit_run xs) = omega arith in rw (e, s) (digit_from b e, run_digits xs))
     (λ e. rw e tt)
 
-run_full : (xs : List ℕ) → digit_run xs ≡ length xs → All Digit xs
+run_full : (xs : List ℕ) → digit_run xs ≡ length xs → AllByRecursion Digit xs
 run_full [] h = tt
 run_full (b ∷ xs) h =
     by_bool (is_digit b)
     (λ e. let k : 1 + digit_run xs ≡ suc (length xs) = rw e at h in (digit_from b e, run_full xs (omega arith)))
     (λ e. let k : 0 ≡ suc (length xs) = rw e at h in absurd (omega arith))
 
-run_over : (ds rest : List ℕ) → All Digit ds → digit_run (ds ++ rest) ≡ length ds + digit_run rest
+run_over : (ds rest : List ℕ) → AllByRecursion Digit ds → digit_run (ds ++ rest) ≡ length ds + digit_run rest
 run_over [] rest h = omega arith
 run_over (b ∷ ds) rest h = rw (digit_test b h.0, run_over ds rest h.1) (omega arith)
 
-run_all_digits : (ds : List ℕ) → All Digit ds → digit_run ds ≡ length ds
+run_all_digits : (ds : List ℕ) → AllByRecursion Digit ds → digit_run ds ≡ length ds
 run_all_digits [] h = refl
 run_all_digits (b ∷ ds) h = rw (digit_test b h.0, run_all_digits ds h.1) (omega arith)
 
@@ -57,7 +57,7 @@ sign_split (b ∷ bs) =
 -- what a word's form says of the word
 abbrev pub Holds : List ℕ → Shape → Type 0
 Holds w (whole_word negative front) = Parts w negative front []
-Holds w (decimal_word negative front back) = Parts w negative front (46 ∷ back) × All Digit back
+Holds w (decimal_word negative front back) = Parts w negative front (46 ∷ back) × AllByRecursion Digit back
 Holds w (text_word t) = t ≡ w
 
 by_rest_lem : (w : List ℕ) (negative : Bool) (front rest : List ℕ) → Parts w negative front rest → Holds w (by_rest w negative front rest)
@@ -90,7 +90,7 @@ word_holds w =
     })
     (λ e. refl)
 
-pub strip : (negative : Bool) (s front rest : List ℕ) → SignText negative s → All Digit front → 1 ≤ length front → (negative ≡ has_minus (s ++ (front ++ rest))) × (front ++ rest ≡ without_sign (s ++ (front ++ rest)))
+pub strip : (negative : Bool) (s front rest : List ℕ) → SignText negative s → AllByRecursion Digit front → 1 ≤ length front → (negative ≡ has_minus (s ++ (front ++ rest))) × (front ++ rest ≡ without_sign (s ++ (front ++ rest)))
 strip negative s [] rest e h some = absurd (omega arith)
 strip true s (b ∷ ds) rest e h some = rw e (refl, refl)
 strip false s (b ∷ ds) rest (inl e) h some =
@@ -114,11 +114,11 @@ parts_word w negative front rest p stop =
 pub parts_whole : (w : List ℕ) (negative : Bool) (front : List ℕ) → Parts w negative front [] → whole_word negative front ≡ word_of w
 parts_whole w negative front p = parts_word w negative front [] p refl
 
-pub parts_decimal : (w : List ℕ) (negative : Bool) (front back : List ℕ) → Parts w negative front (46 ∷ back) → All Digit back → decimal_word negative front back ≡ word_of w
+pub parts_decimal : (w : List ℕ) (negative : Bool) (front back : List ℕ) → Parts w negative front (46 ∷ back) → AllByRecursion Digit back → decimal_word negative front back ≡ word_of w
 parts_decimal w negative front back p h = sym (rw (eq-eqb (digit_run back) (length back) (run_all_digits back h))) ∙ parts_word w negative front (46 ∷ back) p refl
 
 pub whole_parts : (w : List ℕ) (negative : Bool) (front : List ℕ) → whole_word negative front ≡ word_of w → Parts w negative front []
 whole_parts w negative front e = let P : Shape → Type 0 = Holds w in subst P (sym e) (word_holds w)
 
-pub decimal_parts : (w : List ℕ) (negative : Bool) (front back : List ℕ) → decimal_word negative front back ≡ word_of w → Parts w negative front (46 ∷ back) × All Digit back
+pub decimal_parts : (w : List ℕ) (negative : Bool) (front back : List ℕ) → decimal_word negative front back ≡ word_of w → Parts w negative front (46 ∷ back) × AllByRecursion Digit back
 decimal_parts w negative front back e = let P : Shape → Type 0 = Holds w in subst P (sym e) (word_holds w)

@@ -1,6 +1,6 @@
 -- What is written is read back, and is one word of its line.
 use Rattle.std.specs.Prelude.{◌≡◌, ℕ, ◌+◌, ◌^◌, ◌<◌, ◌≤◌, List, length, ℤ, pos, ◌≤ℤ◌, Some, unsigned_abs}
-use Rattle.std.specs.List.{AllByRecursion as All}
+use Rattle.std.specs.List.{AllByRecursion}
 use Rattle.numbers.specs.Values.{whole_of, decimal_of}
 use Rattle.numbers.specs.Texts.{text_of, two_digits}
 
@@ -19,7 +19,7 @@ Printable b = (33 ≤ b) × (b ≤ 126)
 
 -- a text that is one word of its line
 abbrev pub OneWord : List ℕ → Type 0
-OneWord w = All Printable w × (1 ≤ length w)
+OneWord w = AllByRecursion Printable w × (1 ≤ length w)
 
 abbrev pub TextsAreWords : Type 0
 TextsAreWords = ((v : ℤ) (d : ℕ) → unsigned_abs v < 2 ^ 64 → OneWord (text_of v d)) × ((v : ℤ) → OneWord (two_digits v))

@@ -1,6 +1,6 @@
 -- What a number's text is, in words of its parts.
 use Rattle.std.specs.Prelude.{◌≡◌, ℕ, ◌+◌, ◌-◌, ◌*◌, ◌^◌, ◌≤◌, Bool, true, false, ◌⊎◌, List, [], ◌∷◌, ◌++◌, length, ℤ, Some}
-use Rattle.std.specs.List.{AllByRecursion as All}
+use Rattle.std.specs.List.{AllByRecursion}
 use Rattle.numbers.specs.Shapes.{Digit}
 use Rattle.numbers.specs.Values.{digits_value, signed_value, whole_of, decimal_of}
 
@@ -12,7 +12,7 @@ SignText false s = (s ≡ []) ⊎ (s ≡ 43 ∷ [])
 pub record Parts (w : List ℕ) (negative : Bool) (front rest : List ℕ) : Type 0 where
   pub sign : List ℕ
   pub signed : SignText negative sign
-  pub digits : All Digit front
+  pub digits : AllByRecursion Digit front
   pub some : 1 ≤ length front
   pub few : length front ≤ 12
   pub all : w ≡ sign ++ (front ++ rest)
@@ -32,7 +32,7 @@ pub record IsDecimal (w : List ℕ) (d : ℕ) (v : ℤ) : Type 0 where
   pub back : List ℕ
   pub parts : Parts w negative front rest
   pub point : ((rest ≡ []) × (back ≡ [])) ⊎ (rest ≡ 46 ∷ back)
-  pub digits : All Digit back
+  pub digits : AllByRecursion Digit back
   pub fine : length back ≤ d
   pub value : v ≡ signed_value negative (digits_value front * 10 ^ d + digits_value back * 10 ^ (d - length back))
 

@@ -1,7 +1,7 @@
 //! The values of words.
 
 ghost use Rattle.std.specs.Prelude.{◌≡◌, ◌+◌, ◌*◌, ◌^◌, ◌<◌, ◌≤◌, true, length};
-ghost use Rattle.std.specs.List.{AllByRecursion as All};
+ghost use Rattle.std.specs.List.{AllByRecursion};
 ghost use Rattle.numbers.specs.Shapes.{Digit};
 ghost use Rattle.numbers.specs.Values.{digits_value, takes_fraction, fraction_units, signed_value, whole_of, decimal_of};
 
@@ -9,7 +9,7 @@ use crate::word::Word;
 
 /// The number that digits write.
 fn digits_value(digits: &[u8]) -> u64
-    requires { (All Digit digits.now) × (length digits.now ≤ 12) }
+    requires { (AllByRecursion Digit digits.now) × (length digits.now ≤ 12) }
     ensures is { result ≡ digits_value digits.now }
     ensures small { result < 10 ^ length digits.now }
 {
@@ -42,7 +42,7 @@ fn power_of_ten(places: u8) -> u64
 
 /// The digits before the point in units of the last place.
 fn whole_units(digits: &[u8], places: u8) -> u64
-    requires { (All Digit digits.now) × ((length digits.now ≤ 12) × (places ≤ 6)) }
+    requires { (AllByRecursion Digit digits.now) × ((length digits.now ≤ 12) × (places ≤ 6)) }
     ensures is { result ≡ digits_value digits.now * 10 ^ places }
     ensures room { result + 10 ^ places ≤ 10 ^ 18 }
 {
@@ -58,7 +58,7 @@ fn takes_fraction(fraction: &[u8], places: u8) -> bool
 
 /// The digits after the point in units of the last place.
 fn fraction_units(fraction: &[u8], places: u8) -> u64
-    requires { (All Digit fraction.now) × ((takes_fraction fraction.now places ≡ true) × (places ≤ 6)) }
+    requires { (AllByRecursion Digit fraction.now) × ((takes_fraction fraction.now places ≡ true) × (places ≤ 6)) }
     ensures is { result ≡ fraction_units fraction.now places }
     ensures small { result < 10 ^ places }
 {

@@ -1,5 +1,5 @@
 use Rattle.std.specs.Prelude.{◌≡◌, ℕ, ◌+◌, ◌≤◌, Bool, true, false, cond, ◌&&◌, ◌||◌, List, [], ◌∷◌, ◌++◌, length, take, Ok, Err, Result, ◌==◌}
-use Rattle.std.specs.List.{AllByRecursion as All}
+use Rattle.std.specs.List.{AllByRecursion}
 use Rattle.refusal.specs.declared.Refusal.{Refusal}
 use Rattle.refusal.specs.declared.Refusal.TheVariants.{WordCount, WrongForm, OutOfRange}
 use Rattle.lines.specs.Words.{words}
@@ -48,7 +48,7 @@ read_record line t rest = cond (count_fits t (length (words rest))) (read_on lin
 
 -- a number's places leave room for twelve digits before the point
 abbrev pub Fine : List Field → Type 0
-Fine fs = All (λ f. f.places ≤ 6) fs
+Fine fs = AllByRecursion (λ f. f.places ≤ 6) fs
 
 -- what a call answers, and the values that it left
 abbrev pub Told : Result ℕ Refusal → Result (List Value) Refusal → List Value → Type 0

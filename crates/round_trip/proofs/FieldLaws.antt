@@ -1,7 +1,7 @@
 -- A value that its field can have is written as one word after spaces, and this word is read as the value.
 use Rattle.std.proofs.Common.{◌≡◌, ℕ, zero, suc, ◌+◌, ◌-◌, ◌^◌, ◌<◌, ◌≤◌, min, max, Bool, true, ◌&&◌, eqb, leb, ◌⊎◌, List, [], ◌∷◌, ◌++◌, length, take, replicate, ℤ, pos, negsuc, nat_abs, ◌≤ℤ◌, Some, Ok, Option, sym, refl, ap, ◌∙◌, subst, inl, inr, ⊎_elim, arith}
 use lib.Signed.{le_z}
-use Rattle.std.specs.List.{AllByRecursion as All}
+use Rattle.std.specs.List.{AllByRecursion}
 use Rattle.std.proofs.lemmas.List.{take_at, take_all}
 use Rattle.std.proofs.lemmas.Int.{ints}
 use Rattle.std.proofs.lemmas.Bool.{and_parts, and_from, eqb-true, leb-true, or_cases}
@@ -62,7 +62,7 @@ printable_letter b h =
     (or_cases (leb 97 b && leb b 122) (leb 48 b && leb b 57) e))
     (or_cases (leb 65 b && leb b 90) _ h)
 
-printable_letters : (w : List ℕ) → all_name_bytes w ≡ true → All Printable w
+printable_letters : (w : List ℕ) → all_name_bytes w ≡ true → AllByRecursion Printable w
 printable_letters [] h = tt
 printable_letters (b ∷ w) h = let p = and_parts (is_name_byte b) (all_name_bytes w) h in (printable_letter b p.0, printable_letters w p.1)
 
@@ -158,7 +158,7 @@ fine_parts b f h =
     let q = and_parts (fine_number f) (fine_layout f.layout f) p.1 in
     (p.0, fine_number_lem f q.0, q.1)
 
-text_written : (f : Field) (w : List ℕ) → (le_z (pos 1) f.least && le_z f.greatest (pos 10)) ≡ true → in_bounds f (pos (length w)) ≡ true → All Printable w → (name_text (name_of w) ≡ w) × OneWord w × (length (name_text (name_of w)) ≤ nat_abs f.greatest)
+text_written : (f : Field) (w : List ℕ) → (le_z (pos 1) f.least && le_z f.greatest (pos 10)) ≡ true → in_bounds f (pos (length w)) ≡ true → AllByRecursion Printable w → (name_text (name_of w) ≡ w) × OneWord w × (length (name_text (name_of w)) ≤ nat_abs f.greatest)
 text_written f w fine h a =
     let b = name_bounds f (length w) fine h in
     let e = name_back w b.1 in

@@ -1,6 +1,6 @@
 -- What is held goes on from line to line, to the end of a file or a block.
 use Rattle.std.proofs.Common.{◌≡◌, ℕ, ◌+◌, Bool, true, false, cond, ltb, leb, List, [], ◌∷◌, ◌++◌, length, drop, Some, None, Ok, Err, Option, Result, sym, refl, ap, ◌∙◌, subst}
-use Rattle.std.specs.List.{AllByRecursion as All}
+use Rattle.std.specs.List.{AllByRecursion}
 use Rattle.std.proofs.lemmas.Bool.{leb-false}
 use Rattle.refusal.specs.declared.Refusal.{Refusal}
 use Rattle.refusal.specs.declared.Refusal.TheVariants.{NotAfter, FlagChanges, OutOfPlace, TooLong}
@@ -159,7 +159,7 @@ on_held : (n : ℕ) (l : List ℕ) (ls : List (List ℕ)) (e : Ending) (u : Scan
 on_held n l ls e u P (Ok v) h q = h v refl q
 on_held n l ls e u P (Err x) h q = never (cc)
 
-lines_held : (p : Part) (n : ℕ) (ls : List (List ℕ)) (e : Ending) (s u : Scan) (rows : List Row) → All IsLine ls → HeldBy p s rows → scan_lines n ls e s ≡ Ok u → Good p u (rows_on n ls rows)
+lines_held : (p : Part) (n : ℕ) (ls : List (List ℕ)) (e : Ending) (s u : Scan) (rows : List Row) → AllByRecursion IsLine ls → HeldBy p s rows → scan_lines n ls e s ≡ Ok u → Good p u (rows_on n ls rows)
 lines_held p n [] e s u rows a i h = end_held p s u n rows (ending_refusal (n + 1) e) i h
 lines_held p n (l ∷ ls) e s u rows a i h =
     on_held n l ls e u (Good p u (rows_on n (l ∷ ls) rows)) (line_step (n + 1) l s)

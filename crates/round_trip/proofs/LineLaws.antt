@@ -1,13 +1,13 @@
 -- A text of lines is split into these lines.
 use Rattle.std.proofs.Common.{◌≡◌, ℕ, ◌+◌, ◌≤◌, true, false, eqb, ltb, leb, List, [], ◌∷◌, ◌++◌, length, sym, refl, ap, ◌∙◌, append_assoc, append-nil, arith}
-use Rattle.std.specs.List.{AllByRecursion as All}
+use Rattle.std.specs.List.{AllByRecursion}
 use Rattle.std.proofs.lemmas.List.{length_push}
 use Rattle.std.proofs.lemmas.Bool.{ne_eqb, le-ltb, le-leb}
 use Rattle.lines.specs.Texts.{on_line, text_on, text_of}
 use Rattle.round_trip.specs.Lines.{LineByte, IsLine, lines_text, LinesSplit}
 
 -- the rest of a line after its first bytes
-on_line_lem : (line l rest : List ℕ) → All LineByte l → length line + length l ≤ 128 → text_on line (l ++ (10 ∷ rest)) ≡ on_line (line ++ l) (text_of rest)
+on_line_lem : (line l rest : List ℕ) → AllByRecursion LineByte l → length line + length l ≤ 128 → text_on line (l ++ (10 ∷ rest)) ≡ on_line (line ++ l) (text_of rest)
 on_line_lem line [] rest h short =
     let k : leb (length line) 128 ≡ true = le-leb (length line) 128 (omega arith) in
     rw k (ap (λ x. on_line x (text_of rest)) (sym (append-nil line)))

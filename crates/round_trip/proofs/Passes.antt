@@ -1,6 +1,6 @@
 -- How a reader passes the text of records.
 use Rattle.std.proofs.Common.{◌≡◌, ℕ, ◌+◌, ◌≤◌, true, false, cond, List, [], ◌∷◌, ◌++◌, length, drop, Some, Ok, sym, refl, ap, ◌∙◌, append_assoc, append-nil, add-zero, arith}
-use Rattle.std.specs.List.{AllByRecursion as All}
+use Rattle.std.specs.List.{AllByRecursion}
 use Rattle.std.proofs.ByRecursion.{All-append}
 use Rattle.std.proofs.lemmas.List.{length-append}
 use Rattle.lines.specs.Texts.{Ending}
@@ -32,7 +32,7 @@ use Rattle.round_trip.proofs.RecordLaws.{line_le, records_read_back}
 pub record Passes (text : List ℕ) (k : ℕ) (s : Scan) (rows : List Row) (u : Scan) (last : List Row) : Type 0 where
   pub lines : List (List ℕ)
   pub is : text ≡ lines_text lines
-  pub good : All IsLine lines
+  pub good : AllByRecursion IsLine lines
   pub fits : length text ≤ k
   pub scans : (n : ℕ) (more : List (List ℕ)) (e : Ending) → scan_lines n (lines ++ more) e s ≡ scan_lines (n + length lines) more e u
   pub stores : (n : ℕ) (more : List (List ℕ)) → rows_on n (lines ++ more) rows ≡ rows_on (n + length lines) more last

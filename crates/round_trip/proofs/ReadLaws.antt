@@ -1,7 +1,7 @@
 -- What is read of a line is good.
 use Rattle.std.proofs.Common.{◌≡◌, ℕ, ◌+◌, ◌<◌, ◌≤◌, min, Bool, true, false, cond, ◌&&◌, eqb, ltb, leb, List, [], ◌∷◌, ◌++◌, length, drop, ℤ, pos, Some, None, Ok, Err, Option, Result, sym, refl, ap, ◌∙◌, subst, ⊎_elim, append_assoc, append-nil, arith}
 use lib.Signed.{le_z}
-use Rattle.std.specs.List.{AllByRecursion as All}
+use Rattle.std.specs.List.{AllByRecursion}
 use Rattle.std.proofs.ByRecursion.{All-push, All-drop}
 use Rattle.std.proofs.lemmas.Bool.{and_parts, cases_lt, cond_both, eqb-true, eqb-false, leb-true, ltb-false, or_cases}
 use Rattle.refusal.specs.declared.Refusal.{Refusal}
@@ -26,30 +26,30 @@ use Rattle.round_trip.specs.Goods.{cpf_word, GoodNumber, GoodDay, GoodBy, GoodOn
 use Rattle.round_trip.proofs.Basics.{never}
 
 -- the lines of a text are lines
-lines_on : (line bs : List ℕ) → All LineByte line → All IsLine (text_on line bs).lines
+lines_on : (line bs : List ℕ) → AllByRecursion LineByte line → AllByRecursion IsLine (text_on line bs).lines
 lines_on [] [] h = tt
 lines_on (c ∷ line) [] h = tt
 lines_on line (b ∷ bs) h =
-    let P : FileText → Type 0 = λ t. All IsLine t.lines in
+    let P : FileText → Type 0 = λ t. AllByRecursion IsLine t.lines in
     cond_both (eqb b 10) _ _ P
     (λ _. cond_both (leb (length line) 128) (on_line line (text_on [] bs)) (ends_by too_long) P (λ e. (record { bytes = h; short = leb-true (length line) 128 e }, lines_on [] bs tt)) (λ _. tt))
     (λ _. cond_both (ltb b 32) (ends_by forbidden) _ P (λ _. tt)
     (λ low. cond_both (ltb 126 b) (ends_by forbidden) (text_on (line ++ (b ∷ [])) bs) P (λ _. tt)
     (λ high. lines_on (line ++ (b ∷ [])) bs (All-push LineByte line b h (ltb-false b 32 low, ltb-false 126 b high)))))
 
-pub text_lines : (bs : List ℕ) → All IsLine (text_of bs).lines
+pub text_lines : (bs : List ℕ) → AllByRecursion IsLine (text_of bs).lines
 text_lines bs = lines_on [] bs tt
 
 -- the words of a line are printable
-first_printable : (b : ℕ) (ws : List (List ℕ)) → Printable b → All (All Printable) ws → All (All Printable) (on_first b ws)
+first_printable : (b : ℕ) (ws : List (List ℕ)) → Printable b → AllByRecursion (AllByRecursion Printable) ws → AllByRecursion (AllByRecursion Printable) (on_first b ws)
 first_printable b [] p a = ((p, tt), tt)
 first_printable b (w ∷ ws) p a = ((p, a.0), a.1)
 
-words_printable : (l : List ℕ) → All LineByte l → All (All Printable) (words l)
+words_printable : (l : List ℕ) → AllByRecursion LineByte l → AllByRecursion (AllByRecursion Printable) (words l)
 words_printable [] a = tt
 words_printable (b ∷ bs) a =
     let rest = words_printable bs a.1 in
-    let P : List (List ℕ) → Type 0 = λ ws. All (All Printable) ws in
+    let P : List (List ℕ) → Type 0 = λ ws. AllByRecursion (AllByRecursion Printable) ws in
     cond_both (eqb b 32) (words bs) _ P (λ _. rest)
     (λ e. let ne = eqb-false b 32 e in
     let at = a.0.0 in
@@ -86,7 +86,7 @@ day_good f before (Some z) v p =
     let r = and_parts (in_bounds f z) (le_z z (pos (last_day before))) q.0 in
     record { number = z; is = sym q.1; inside = r.0; exists = r.1 }
 
-value_good : (g : Form) (f : Field) (w : List ℕ) (before : List Value) (v : Value) → All Printable w → value_by g f w before ≡ Ok v → GoodBy g f before v
+value_good : (g : Form) (f : Field) (w : List ℕ) (before : List Value) (v : Value) → AllByRecursion Printable w → value_by g f w before ≡ Ok v → GoodBy g f before v
 value_good form.Cpf f w before v a p = let q = chosen (is_cpf w) (Text (name_of w)) v _ p in sym q.1 ∙ ap (λ x. Text (name_of x)) (cpf_is w q.0)
 value_good form.Name f w before v a p =
     let q = chosen (in_bounds f (pos (length w)) && all_name_bytes w) (Text (name_of w)) v _ p in
@@ -110,7 +110,7 @@ none_more : (fs : List Field) (ws : List (List ℕ)) (before vs : List Value) �
 none_more [] ws before vs n p = let e : vs ≡ before = cc in record { more = []; all = e ∙ sym (append-nil before); good = tt; count = sym n }
 none_more (f ∷ fs) ws before vs n p = let e : vs ≡ before = cc in record { more = []; all = e ∙ sym (append-nil before); good = tt; count = sym n }
 
-by_value : (line : ℕ) (f : Field) (fs : List Field) (w : List ℕ) (ws : List (List ℕ)) (before vs : List Value) (r : Result Value Fault) → r ≡ field_value f w before → All Printable w
+by_value : (line : ℕ) (f : Field) (fs : List Field) (w : List ℕ) (ws : List (List ℕ)) (before vs : List Value) (r : Result Value Fault) → r ≡ field_value f w before → AllByRecursion Printable w
     → ((v : Value) → read_on line fs ws (before ++ (v ∷ [])) ≡ Ok vs → GoodMore fs ws (before ++ (v ∷ [])) vs)
     → onward r line (length before + 2) (λ v. read_on line fs ws (before ++ (v ∷ []))) ≡ Ok vs → GoodMore (f ∷ fs) (w ∷ ws) before vs
 by_value line f fs w ws before vs (Err e) q a next p = never (cc)
@@ -119,7 +119,7 @@ by_value line f fs w ws before vs (Ok v) q a next p =
     let n = m.count in
     record { more = v ∷ m.more; all = m.all ∙ append_assoc before (v ∷ []) m.more; good = (value_good f.form f w before v a (sym q), m.good); count = omega arith }
 
-read_more : (line : ℕ) (fs : List Field) (ws : List (List ℕ)) (before vs : List Value) → All (All Printable) ws → read_on line fs ws before ≡ Ok vs → GoodMore fs ws before vs
+read_more : (line : ℕ) (fs : List Field) (ws : List (List ℕ)) (before vs : List Value) → AllByRecursion (AllByRecursion Printable) ws → read_on line fs ws before ≡ Ok vs → GoodMore fs ws before vs
 read_more line [] ws before vs a p = none_more [] ws before vs (omega arith) p
 read_more line (f ∷ fs) [] before vs a p = none_more (f ∷ fs) [] before vs (omega arith) p
 read_more line (f ∷ fs) (w ∷ ws) before vs a p = by_value line f fs w ws before vs (field_value f w before) refl a.0 (λ v q. read_more line fs ws (before ++ (v ∷ [])) vs a.1 q) p

@@ -1,6 +1,6 @@
 -- A record's line is read back.
 use Rattle.std.proofs.Common.{◌≡◌, ℕ, zero, suc, ◌+◌, ◌≤◌, true, List, [], ◌∷◌, ◌++◌, length, drop, replicate, Some, Ok, sym, refl, ap, ◌∙◌, subst, append_assoc, append-nil, arith}
-use Rattle.std.specs.List.{AllByRecursion as All}
+use Rattle.std.specs.List.{AllByRecursion}
 use Rattle.std.proofs.ByRecursion.{All-append, All-weaker}
 use Rattle.std.proofs.lemmas.List.{length-append, drop_at}
 use Rattle.std.proofs.lemmas.Bool.{and_parts}
@@ -27,7 +27,7 @@ skip_spaces : (n : ℕ) (xs : List ℕ) → words (replicate n 32 ++ xs) ≡ wor
 skip_spaces zero xs = refl
 skip_spaces (suc n) xs = skip_spaces n xs
 
-solid : (w : List ℕ) → All Printable w → Solid w
+solid : (w : List ℕ) → AllByRecursion Printable w → Solid w
 solid [] a k h e = omega arith
 solid (b ∷ w) a zero h e = omega (arith, a.0.0, e)
 solid (b ∷ w) a (suc k) h e = solid w a.1 k (omega arith) e
@@ -36,17 +36,17 @@ one_word : (w rest : List ℕ) → OneWord w → stops rest ≡ true → words (
 one_word [] rest o s = absurd (omega (arith, o.1))
 one_word (b ∷ w) rest o s = first_word b w rest (solid (b ∷ w) o.0) s
 
-spaces_line : (n : ℕ) → All LineByte (replicate n 32)
+spaces_line : (n : ℕ) → AllByRecursion LineByte (replicate n 32)
 spaces_line zero = tt
 spaces_line (suc n) = ((omega arith, omega arith), spaces_line n)
 
-word_line : (w : List ℕ) → All Printable w → All LineByte w
+word_line : (w : List ℕ) → AllByRecursion Printable w → AllByRecursion LineByte w
 word_line w a = All-weaker Printable LineByte (λ b p. (omega arith, omega arith)) w a
 
 -- the text of fields is that of words, which are read as the values
 record FieldsBack (fs : List Field) (before vs : List Value) : Type 0 where
   begins : stops (fields_text fs vs) ≡ true
-  bytes : All LineByte (fields_text fs vs)
+  bytes : AllByRecursion LineByte (fields_text fs vs)
   fits : length (fields_text fs vs) ≤ room_of fs
   count : length (words (fields_text fs vs)) ≡ length vs
   reads : (line : ℕ) → read_on line fs (words (fields_text fs vs)) before ≡ Ok (before ++ vs)
@@ -62,7 +62,7 @@ unfolding fields_text field_text
 more_back f fs before v vs w r =
     let text = text_by f.form f v in
     let rest = fields_text fs vs in
-    let line : All LineByte text = subst (λ l. All LineByte l) (sym w.text) (All-append LineByte (replicate w.spaces 32) w.word (spaces_line w.spaces) (word_line w.word w.one.0)) in
+    let line : AllByRecursion LineByte text = subst (λ l. AllByRecursion LineByte l) (sym w.text) (All-append LineByte (replicate w.spaces 32) w.word (spaces_line w.spaces) (word_line w.word w.one.0)) in
     let split : words (text ++ rest) ≡ w.word ∷ words rest =
     ap (λ l. words (l ++ rest)) w.text ∙ ap words (append_assoc (replicate w.spaces 32) w.word rest) ∙ skip_spaces w.spaces (w.word ++ rest) ∙ one_word w.word rest w.one r.begins in
     record {
@@ -83,7 +83,7 @@ fields_back (f ∷ fs) before (v ∷ vs) fine g =
     let p = and_parts (fine_by f.form f) (fine_fields fs) fine in
     more_back f fs before v vs (written f.form f before v p.0 g.0) (fields_back fs (before ++ (v ∷ [])) vs p.1 g.1)
 
-type_line : (t : Record) → All LineByte (type_text t)
+type_line : (t : Record) → AllByRecursion LineByte (type_text t)
 type_line rec.H1 = ((omega arith, omega arith), ((omega arith, omega arith), tt))
 type_line rec.H2 = ((omega arith, omega arith), ((omega arith, omega arith), tt))
 type_line rec.H3 = ((omega arith, omega arith), ((omega arith, omega arith), tt))
@@ -132,7 +132,7 @@ records_read_back t vs g =
     let fits : count_fits t (length (words text)) ≡ true = ap (count_fits t) b.count ∙ g.count in
     record {
       text = record_is t vs ∙ sym (ap (λ l. l ++ (10 ∷ [])) (line_is t vs) ∙ append_assoc (type_text t) text (10 ∷ []));
-      line = record { bytes = subst (λ l. All LineByte l) (sym (line_is t vs)) (All-append LineByte (type_text t) text (type_line t) b.bytes); short = omega (arith, line_le t vs g, longest_le t) };
+      line = record { bytes = subst (λ l. AllByRecursion LineByte l) (sym (line_is t vs)) (All-append LineByte (type_text t) text (type_line t) b.bytes); short = omega (arith, line_le t vs g, longest_le t) };
       type = ap record_of (line_is t vs) ∙ type_back t text b.begins;
       values = λ number. ap (λ l. read_record number t (drop 2 l)) (line_is t vs) ∙ ap (read_record number t) (drop_at (type_text t) text 2 (type_long t)) ∙ rw fits (b.reads number);
     }

@@ -1,6 +1,6 @@
 -- How a reader passes rows.
 use Rattle.std.proofs.Common.{◌≡◌, ℕ, ◌+◌, ◌*◌, ◌<◌, ◌≤◌, Bool, true, false, leb, List, [], ◌∷◌, ◌++◌, length, Some, None, Ok, Option, sym, refl, ap, ◌∙◌, subst, append_assoc, append-nil, arith}
-use Rattle.std.specs.List.{AllByRecursion as All}
+use Rattle.std.specs.List.{AllByRecursion}
 use Rattle.std.proofs.lemmas.Bool.{lt-leb}
 use Rattle.calendar.specs.Instants.{moment}
 use Rattle.cells.specs.declared.summary.Summary.{Summary}
@@ -125,7 +125,7 @@ module _ (room : ℕ) (h : Header) (p : Span) where
       let c : leb room m.count ≡ false = lt-leb room m.count small in
       rw (a, b, c)
 
-  rest_pass : (rs : List Row) (r : Row) (st : Stage) (m : Summary) (rows : List Row) → Between (has_velocity r) st → m.last ≡ r.at → m.flag ≡ r.flag → m.count + length rs ≤ room → All GoodRow rs → InOrder r rs
+  rest_pass : (rs : List Row) (r : Row) (st : Stage) (m : Summary) (rows : List Row) → Between (has_velocity r) st → m.last ≡ r.at → m.flag ≡ r.flag → m.count + length rs ≤ room → AllByRecursion GoodRow rs → InOrder r rs
       → RowsPass (rows_text rs) (rows_room rs) (row_state st (Some m)) rows (extended_by m rs) (rows ++ rs)
   unfolding rows_text
   rest_pass [] r st m rows b at flag fits g o =

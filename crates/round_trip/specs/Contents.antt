@@ -1,6 +1,6 @@
 -- Headers and rows that a file can have.
 use Rattle.std.specs.Prelude.{◌≡◌, ◌<◌, Bool, true, false, List, [], ◌∷◌, length, ℤ, Some, None, Option}
-use Rattle.std.specs.List.{AllByRecursion as All}
+use Rattle.std.specs.List.{AllByRecursion}
 use Rattle.calendar.specs.Instants.{moment}
 use Rattle.model.specs.declared.Row.{Row}
 use Rattle.model.specs.declared.Vector.{Vector}
@@ -80,4 +80,4 @@ InOrder r (s ∷ rs) = Follows r s × InOrder s rs
 -- at least one row, each good, in their order
 abbrev pub GoodRows : List Row → Type 0
 GoodRows [] = ⊥
-GoodRows (r ∷ rs) = All GoodRow (r ∷ rs) × InOrder r rs
+GoodRows (r ∷ rs) = AllByRecursion GoodRow (r ∷ rs) × InOrder r rs

@@ -1,6 +1,6 @@
 -- The values that a record's fields can have.
 use Rattle.std.specs.Prelude.{◌≡◌, ℕ, true, List, [], ◌∷◌, ◌++◌, length, ℤ, pos, int_le}
-use Rattle.std.specs.List.{AllByRecursion as All}
+use Rattle.std.specs.List.{AllByRecursion}
 use Rattle.model.specs.Names.{name_of}
 use Rattle.numbers.specs.Back.{Printable}
 use Rattle.records.specs.declared.field.Form.{Form}
@@ -29,7 +29,7 @@ pub record GoodNote (f : Field) (v : Value) : Type 0 where
   pub word : List ℕ
   pub is : v ≡ Text (name_of word)
   pub long : in_bounds f (pos (length word)) ≡ true
-  pub printable : All Printable word
+  pub printable : AllByRecursion Printable word
 
 -- a number in the field's bounds
 pub record GoodNumber (f : Field) (v : Value) : Type 0 where

@@ -1,6 +1,6 @@
 -- Lines, and the text that they make.
 use Rattle.std.specs.Prelude.{◌≡◌, ℕ, ◌≤◌, List, [], ◌∷◌, ◌++◌, length}
-use Rattle.std.specs.List.{AllByRecursion as All}
+use Rattle.std.specs.List.{AllByRecursion}
 use Rattle.lines.specs.Texts.{Text, at_line, text_of}
 
 -- a byte of a line before its end
@@ -9,7 +9,7 @@ LineByte b = (32 ≤ b) × (b ≤ 126)
 
 -- a line without its end
 pub record IsLine (l : List ℕ) : Type 0 where
-  pub bytes : All LineByte l
+  pub bytes : AllByRecursion LineByte l
   pub short : length l ≤ 128
 
 -- the text of lines: each with its end, byte 10
@@ -23,4 +23,4 @@ all_lines ls = record { lines = ls; ending = at_line }
 
 -- the text of lines has these lines, and ends after them
 abbrev pub LinesSplit : Type 0
-LinesSplit = (ls : List (List ℕ)) → All IsLine ls → text_of (lines_text ls) ≡ all_lines ls
+LinesSplit = (ls : List (List ℕ)) → AllByRecursion IsLine ls → text_of (lines_text ls) ≡ all_lines ls

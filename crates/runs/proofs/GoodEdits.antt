@@ -1,6 +1,6 @@
 -- The rows after an accepted edit are such as a file can have.
 use Rattle.std.proofs.Common.{◌≡◌, ℕ, ◌≤◌, Bool, true, false, cond, ltb, List, [], ◌∷◌, ◌++◌, Some, None, Option, sym, refl, ap, ◌∙◌, subst}
-use Rattle.std.specs.List.{AllByRecursion as All}
+use Rattle.std.specs.List.{AllByRecursion}
 use Rattle.std.proofs.ByRecursion.{All-append, All-weaker}
 use Rattle.std.proofs.lemmas.Bool.{and_from, and_parts, lt-ltb, ltb-true, false≢true}
 use Rattle.model.specs.declared.Row.{Row}
@@ -18,10 +18,10 @@ use Rattle.round_trip.specs.Contents.{GoodRow, has_velocity, is_some, InOrder, G
 
 -- b tells whether they have velocities
 pub record Good (b : Bool) (rows : List Row) : Type 0 where
-  pub each : All GoodRow rows
+  pub each : AllByRecursion GoodRow rows
   pub order : ascends rows ≡ true
   pub flags : flags_stay rows ≡ true
-  pub velocities : All (λ r. has_velocity r ≡ b) rows
+  pub velocities : AllByRecursion (λ r. has_velocity r ≡ b) rows
 
 some_same : (v : Option Vector) → is_some v ≡ checks.is_some v
 some_same None = refl
@@ -31,7 +31,7 @@ pub good_some : (rows : List Row) → GoodRows rows → none rows ≡ false
 good_some [] g = absurd g
 good_some (r ∷ rs) g = refl
 
-order_parts : (r : Row) (rs : List Row) → InOrder r rs → (ascends (r ∷ rs) ≡ true) × (flags_stay (r ∷ rs) ≡ true) × All (λ s. has_velocity s ≡ has_velocity r) rs
+order_parts : (r : Row) (rs : List Row) → InOrder r rs → (ascends (r ∷ rs) ≡ true) × (flags_stay (r ∷ rs) ≡ true) × AllByRecursion (λ s. has_velocity s ≡ has_velocity r) rs
 order_parts r [] o = (refl, refl, tt)
 order_parts r (s ∷ rs) o =
     let f = o.0 in
@@ -41,7 +41,7 @@ order_parts r (s ∷ rs) o =
       (f.velocity, All-weaker (λ x. has_velocity x ≡ has_velocity s) (λ x. has_velocity x ≡ has_velocity r) (λ x e. e ∙ f.velocity) rs p.2),
     )
 
-order_from : (b : Bool) (r : Row) (rs : List Row) → ascends (r ∷ rs) ≡ true → flags_stay (r ∷ rs) ≡ true → All (λ s. has_velocity s ≡ b) (r ∷ rs) → InOrder r rs
+order_from : (b : Bool) (r : Row) (rs : List Row) → ascends (r ∷ rs) ≡ true → flags_stay (r ∷ rs) ≡ true → AllByRecursion (λ s. has_velocity s ≡ b) (r ∷ rs) → InOrder r rs
 order_from b r [] u f v = tt
 order_from b r (s ∷ rs) u f v =
     let p = and_parts (next_after r (s ∷ rs)) (ascends (s ∷ rs)) u in
@@ -66,19 +66,19 @@ good_from b (r ∷ rs) n g = (g.each, order_from b r rs g.order g.flags g.veloci
 
 -- PARTS OF ROWS
 
-all_if : (P : Row → Type 0) (b : Bool) (r : Row) (rs : List Row) → P r → All P rs → All P (cond b (r ∷ rs) rs)
+all_if : (P : Row → Type 0) (b : Bool) (r : Row) (rs : List Row) → P r → AllByRecursion P rs → AllByRecursion P (cond b (r ∷ rs) rs)
 all_if P true r rs p h = (p, h)
 all_if P false r rs p h = h
 
-pub all_before : (P : Row → Type 0) (x : ℕ) (rows : List Row) → All P rows → All P (before x rows)
+pub all_before : (P : Row → Type 0) (x : ℕ) (rows : List Row) → AllByRecursion P rows → AllByRecursion P (before x rows)
 all_before P x [] h = tt
 all_before P x (r ∷ rs) h = all_if P (ltb (moment_of r) x) r (before x rs) h.0 (all_before P x rs h.1)
 
-pub all_behind : (P : Row → Type 0) (y : ℕ) (rows : List Row) → All P rows → All P (behind y rows)
+pub all_behind : (P : Row → Type 0) (y : ℕ) (rows : List Row) → AllByRecursion P rows → AllByRecursion P (behind y rows)
 all_behind P y [] h = tt
 all_behind P y (r ∷ rs) h = all_if P (ltb y (moment_of r)) r (behind y rs) h.0 (all_behind P y rs h.1)
 
-all_change : (P : Row → Type 0) (x y : ℕ) (block rows : List Row) → All P block → All P rows → All P (before x rows ++ (block ++ behind y rows))
+all_change : (P : Row → Type 0) (x y : ℕ) (block rows : List Row) → AllByRecursion P block → AllByRecursion P rows → AllByRecursion P (before x rows ++ (block ++ behind y rows))
 all_change P x y block rows g h = All-append P (before x rows) (block ++ behind y rows) (all_before P x rows h) (All-append P block (behind y rows) g (all_behind P y rows h))
 
 -- EDITS
@@ -97,7 +97,7 @@ paste_good block rows g k d f =
     let b = good_parts block g in
     let p = good_parts rows k in
     let n = good_some block g in
-    let vs : All (λ r. has_velocity r ≡ moving rows) block = subst (λ z. All (λ r. has_velocity r ≡ z) block) (not_differ (moving block) (moving rows) d) b.velocities in
+    let vs : AllByRecursion (λ r. has_velocity r ≡ moving rows) block = subst (λ z. AllByRecursion (λ r. has_velocity r ≡ z) block) (not_differ (moving block) (moving rows) d) b.velocities in
     good_from (moving rows) (paste_of block rows).rows (paste_some Paste x y block rows n)
     (record {
       each = all_change GoodRow x y block rows b.each p.each;

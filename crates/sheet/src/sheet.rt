@@ -9,7 +9,7 @@ use model::Row;
 use model::header::Header;
 
 pub mod calls;
-pub mod edits;
+pub mod editing;
 pub mod history;
 pub mod table;
 
