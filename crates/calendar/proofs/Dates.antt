@@ -1,4 +1,7 @@
-use Rattle.std.proofs.Common.{◌≡◌, ℕ, zero, suc, ◌+◌, ◌-◌, ◌<◌, ◌≤◌, true, false, leb, ◌⊎◌, Some, None, sym, refl, ap, ◌∙◌, ⊎_elim, add-one, arith}
+use Rattle.std.proofs.Common.{map, sum, ◌≡◌, ℕ, zero, suc, ◌+◌, ◌-◌, ◌<◌, ◌≤◌, true, false, leb, ◌⊎◌, Some, None, sym, refl, ap, ◌∙◌, ⊎_elim, add-one, arith}
+use Rattle.std.specs.List.{range_with_len}
+use Rattle.std.proofs.lemmas.List.FromFn.{map-range_with_len_more}
+use Rattle.std.proofs.lemmas.List.Sums.{sum_by_push}
 use Rattle.std.proofs.lemmas.Bool.{le-leb, leb-true, leb-false, and_from, and_parts, cond_both, cond-true, cases_Bool, cases_lt}
 use Rattle.calendar.specs.declared.date.Date.{Date}
 use Rattle.calendar.specs.Dates.{leap, days_in_year, short, days_in_month, days_of_years, days_before_year, days_before_month, day_number, date_exists, day_exists, last_started, year_of, day_of_year, month_of, date_of, date_if, DaysInCalendar, DaysInOrder, EveryDayHasItsDate, EveryDateIsOfItsDay, DateEdges}
@@ -75,6 +78,18 @@ year_step y h = let e : 1970 + (y - 1970) ≡ y = omega arith in rw e
 pub year_more : (y : ℕ) → 1970 ≤ y → days_before_year (y + 1) ≡ days_before_year y + days_in_year y
 year_more y h = let e : y + 1 - 1970 ≡ suc (y - 1970) = omega arith in ap days_of_years e ∙ year_step y h
 
+-- the periods before one of them, summed
+more_sum : (f : ℕ → ℕ) (a n : ℕ) → sum (map f (range_with_len a (n + 1))) ≡ sum (map f (range_with_len a n)) + f (a + n)
+more_sum f a n = ap sum (map-range_with_len_more f a n (a + n) refl) ∙ sum_by_push (λ x. x) (map f (range_with_len a n)) (f (a + n))
+
+years_from : (n : ℕ) → sum (map days_in_year (range_with_len 1970 n)) ≡ days_of_years n
+unfolding days_of_years
+years_from zero = refl
+years_from (suc n) = let e : suc n ≡ n + 1 = omega arith in ap (λ k. sum (map days_in_year (range_with_len 1970 k))) e ∙ more_sum days_in_year 1970 n ∙ ap (λ k. k + days_in_year (1970 + n)) (years_from n)
+
+pub years_sum : (y : ℕ) → sum (map days_in_year (range_with_len 1970 (y - 1970))) ≡ days_before_year y
+years_sum y = years_from (y - 1970)
+
 pub no_years : days_of_years 0 ≡ 0
 unfolding days_of_years
 no_years = refl
@@ -86,12 +101,10 @@ all_years = refl
 pub year_fits : (y : ℕ) → 1970 ≤ y → y ≤ 2099 → days_before_year y + days_in_year y ≤ 47482
 year_fits y l h = omega (arith, all_years, year_step y l, rises days_of_years years_up (suc (y - 1970)) 130 (omega arith))
 
-pub year_below : (y : ℕ) → days_before_year y < 47482 → y ≤ 2099
-year_below y h =
-    ⊎_elim
-    (λ (l : 2099 < y). absurd (omega (arith, all_years, rises days_of_years years_up 130 (y - 1970) (omega arith))))
-    (λ (l : y ≤ 2099). l)
-    (cases_lt 2099 y)
+-- the days left in a year, which is the last one where none is after it
+pub year_left : (y left : ℕ) → 1970 ≤ y → y ≤ 2099 → days_before_year y + left < 47482 → (y < 2099 → (n : ℕ) × (n ≡ days_in_year y) × (left < n)) → left < days_in_year y
+year_left y left l h days long =
+    ⊎_elim (λ (k : y < 2099). let t = long k in omega arith) (λ (k : 2099 ≤ y). let e : y ≡ 2099 = omega arith in omega (arith, all_years, year_step y l, ap (λ z. days_of_years (suc (z - 1970))) e)) (cases_lt y 2099)
 
 -- months
 
@@ -111,18 +124,25 @@ pub all_months : (y : ℕ) → days_before_month y 13 ≡ days_in_year y
 unfolding days_before_month days_in_month short days_in_year
 all_months y = ⊎_elim (λ (e : leap y ≡ true). rw e) (λ (e : leap y ≡ false). rw e) (cases_Bool (leap y))
 
+months_from : (y n : ℕ) → sum (map (days_in_month y) (range_with_len 1 n)) ≡ days_before_month y (suc n)
+months_from y zero = sym (first_month y)
+months_from y (suc n) =
+    let e : suc n ≡ n + 1 = omega arith in
+    let f : 1 + n ≡ suc n = omega arith in
+    ap (λ k. sum (map (days_in_month y) (range_with_len 1 k))) e ∙ more_sum (days_in_month y) 1 n ∙ ap (λ k. k + days_in_month y (1 + n)) (months_from y n) ∙ ap (λ k. days_before_month y (suc n) + days_in_month y k) f ∙ sym (month_step y (suc n))
+
+pub months_sum : (y m : ℕ) → 1 ≤ m → sum (map (days_in_month y) (range_with_len 1 (m - 1))) ≡ days_before_month y m
+months_sum y m h = let e : suc (m - 1) ≡ m = omega arith in months_from y (m - 1) ∙ ap (days_before_month y) e
+
 pub month_fits : (y m : ℕ) → m ≤ 12 → days_before_month y m + days_in_month y m ≤ days_in_year y
 month_fits y m h = omega (arith, month_step y m, all_months y, rises (days_before_month y) (months_up y) (suc m) 13 (omega arith))
 
 pub month_more : (y m : ℕ) → days_before_month y (m + 1) ≡ days_before_month y m + days_in_month y m
 month_more y m = rw add-one (month_step y m)
 
-pub month_below : (y m : ℕ) → days_before_month y m < days_in_year y → m ≤ 12
-month_below y m h =
-    ⊎_elim
-    (λ (l : 12 < m). absurd (omega (arith, all_months y, rises (days_before_month y) (months_up y) 13 m (omega arith))))
-    (λ (l : m ≤ 12). l)
-    (cases_lt 12 m)
+pub month_left : (y m left : ℕ) → m ≤ 12 → days_before_month y m + left < days_in_year y → (m < 12 → (n : ℕ) × (n ≡ days_in_month y m) × (left < n)) → left < days_in_month y m
+month_left y m left h days long =
+    ⊎_elim (λ (k : m < 12). let t = long k in omega arith) (λ (k : 12 ≤ m). let e : m ≡ 12 = omega arith in omega (arith, all_months y, month_step y m, ap (λ z. days_before_month y (suc z)) e)) (cases_lt m 12)
 
 -- the days of an existing date
 
@@ -197,9 +217,6 @@ date_if_is n d h e =
 
 pub every_date_is_of_its_day : EveryDateIsOfItsDay
 every_date_is_of_its_day d h = date_of_is (day_number d) d h refl
-
-pub same_day : (d e : Date) → date_exists d ≡ true → date_exists e ≡ true → day_number d ≡ day_number e → d ≡ e
-same_day d e h k p = sym (every_date_is_of_its_day d h) ∙ (ap date_of p ∙ every_date_is_of_its_day e k)
 
 pub every_day_has_its_date : EveryDayHasItsDate
 unfolding year_of day_of_year month_of

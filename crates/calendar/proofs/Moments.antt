@@ -1,8 +1,9 @@
-use Rattle.std.proofs.Common.{◌≡◌, ℕ, ◌/◌, ◌%◌, ◌<◌, ◌≤◌, true, ◌&&◌, ltb, leb, Ok, sym, ap, arith}
+use Rattle.std.proofs.Common.{◌≡◌, ℕ, ◌<◌, ◌≤◌, true, ◌&&◌, ltb, leb, Ok, sym, ap, arith, rules}
 use mathlib.Core.HLevel.{is_prop→PathP}
 use native.Mathlib.Bridge.{le_prop}
 use Rattle.std.proofs.lemmas.Bool.{le-leb, lt-ltb, and_from, and_parts, leb-true, ltb-true}
 use Rattle.calendar.specs.declared.instant.Instant.{Instant}
+use Rattle.calendar.specs.Order.{InstantsInOrder}
 use Rattle.calendar.specs.Instants.{moment, in_calendar, instant_of, instant_if}
 
 -- an instant is its day and its microseconds
@@ -39,15 +40,12 @@ instant_if_self i =
     let b = i.in_calendar in
     rw (in_calendar_lem i.day i.micros b.0 b.1 b.2) (ap Ok (instant_of_self i))
 
--- joining and splitting
-pub moment_day : (i : Instant) → moment i / 86400000000 ≡ i.day
-moment_day i = let b = i.in_calendar in omega arith
-
-pub moment_micros : (i : Instant) → moment i % 86400000000 ≡ i.micros
-moment_micros i = let b = i.in_calendar in omega arith
-
 pub moment_same : (i j : Instant) → moment i ≡ moment j → i ≡ j
 moment_same i j e = let a = i.in_calendar in let b = j.in_calendar in same_instant i j (omega arith) (omega arith)
 
 pub moment_bounds : (i : Instant) → (3506716800000000 ≤ moment i) × (moment i < 7609161600000000)
 moment_bounds i = let b = i.in_calendar in (omega arith, omega arith)
+
+-- the order of instants is that of their moments
+pub order_of_moments : InstantsInOrder
+order_of_moments i j = search rules

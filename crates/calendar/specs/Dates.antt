@@ -47,6 +47,10 @@ unfoldable pub last_started : (ℕ → ℕ) → ℕ → ℕ → ℕ
 last_started start zero x = 0
 last_started start (suc n) x = cond (nat_le (start (suc n)) x) (suc n) (last_started start n x)
 
+-- start gives the days before each of the periods from first to last, which have the lengths given
+abbrev pub StartsBy : (ℕ → ℕ → Type 0) → ℕ → ℕ → (ℕ → ℕ) → Type 0
+StartsBy Long first last start = (p r : ℕ) → first ≤ p → p < last → Long p r → start (p + 1) ≡ start p + r
+
 -- the year and the month of a day, and the day of the month from 0
 unfoldable pub year_of : ℕ → ℕ
 year_of n = 1970 + last_started days_of_years 129 (n - 40587)

@@ -1,8 +1,10 @@
-use Rattle.std.specs.Prelude.{ℕ, ◌+◌, ◌-◌, ◌*◌, ◌%◌, ◌<◌, Bool, cond, ◌&&◌, Ok, Err, Result, nat_le, nat_lt}
+use Rattle.std.specs.Prelude.{◌≡◌, true, ℕ, ◌+◌, ◌-◌, ◌*◌, ◌%◌, ◌<◌, Bool, cond, ◌&&◌, Ok, Err, Result, nat_le, nat_lt}
 use Rattle.std.proofs.Common.{mod-lt, arith, lit<}
+use Rattle.std.proofs.lemmas.Bool.{le-leb, and_from}
 use Rattle.refusal.specs.declared.Refusal.{Refusal}
 use Rattle.refusal.specs.declared.Refusal.TheVariants.{OutsideCalendar}
 use Rattle.calendar.specs.declared.instant.Instant.{Instant}
+use Rattle.calendar.specs.Dates.{day_exists}
 
 -- the microseconds from the start of day 0
 abbrev pub moment : Instant → ℕ
@@ -21,3 +23,7 @@ instant_of day micros =
 -- the instant of a pair, or the refusal of one outside the calendar
 abbrev pub instant_if : ℕ → ℕ → Result Instant Refusal
 instant_if day micros = cond (in_calendar day micros) (Ok (instant_of day micros)) (Err OutsideCalendar)
+
+-- the day of an instant is one of the calendar's
+pub day_of_instant : (i : Instant) → day_exists i.day ≡ true
+day_of_instant i = and_from _ _ (le-leb 40587 i.day i.in_calendar.0) (le-leb i.day 88068 i.in_calendar.1)

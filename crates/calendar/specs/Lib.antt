@@ -1,2 +1,3 @@
 pub mod Instants
 pub mod Dates
+pub mod Order

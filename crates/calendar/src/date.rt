@@ -1,6 +1,6 @@
 //! Dates of the Gregorian calendar and their day numbers (modified Julian days).
-ghost use Rattle.std.specs.Prelude.{◌≡◌, ◌≤◌};
-ghost use Rattle.calendar.specs.Dates.{leap, days_in_year, days_in_month, days_before_year, days_before_month, date_exists, day_if, date_if};
+ghost use Rattle.std.specs.Prelude.{◌≡◌, ℕ, ◌+◌, ◌<◌, ◌≤◌};
+ghost use Rattle.calendar.specs.Dates.{StartsBy, leap, days_in_year, days_in_month, days_before_year, days_before_month, date_exists, day_if, date_if};
 
 pub mod laws;
 
@@ -15,7 +15,7 @@ const FIRST_YEAR: u32 = 1970;
 const LAST_YEAR: u32 = 2099;
 
 /// A date of the Gregorian calendar.
-#[derive(Clone, Copy, PartialEq, Debug)]
+#[derive(Clone, Copy, PartialEq, Eq, Debug)]
 pub struct Date {
     pub year: u32,
     pub month: u32,
@@ -23,6 +23,7 @@ pub struct Date {
 }
 
 /// Whether a year has 366 days.
+#[tactic(auto, using(std::proofs::lemmas::Bool::Decides::nat_tests), unfolding(crate::specs::Dates::leap))]
 pub fn is_leap(year: u32) -> bool
     ensures { result ≡ leap year }
 {
@@ -30,6 +31,8 @@ pub fn is_leap(year: u32) -> bool
 }
 
 /// The days of a month from 1 to 12; 0 for any other number.
+// Kept: 0 days for no month: a comparison of a day with it then fails of itself, and the sums take months from 1 to 12 alone.
+#[tactic(auto, using(std::proofs::lemmas::Bool::Decides::nat_tests), unfolding(crate::specs::Dates::days_in_month, crate::specs::Dates::short))]
 pub fn days_in_month(year: u32, month: u32) -> u32
     ensures { result ≡ days_in_month year month }
 {
@@ -42,34 +45,47 @@ pub fn days_in_month(year: u32, month: u32) -> u32
     }
 }
 
+#[tactic(auto, using(std::proofs::lemmas::Bool::Decides::nat_tests), unfolding(crate::specs::Dates::days_in_year))]
 fn days_in_year(year: u32) -> u32
     ensures { result ≡ days_in_year year }
 {
     if is_leap(year) { 366 } else { 365 }
 }
 
-// The days from the start of the calendar to the start of one of its years.
+/// The days from the start of the calendar to the start of one of its years.
 fn days_before_year(year: u32) -> u32
     requires { (1970 ≤ year) × (year ≤ 2099) }
     ensures { result ≡ days_before_year year }
 {
-    let mut days = 0;
-    for earlier in FIRST_YEAR..year {
-        days += days_in_year(earlier);
-    }
-    days
+    (FIRST_YEAR..year).map(days_in_year).sum()
 }
 
-// The days from the start of a year to the start of one of its months.
+/// The days from the start of a year to the start of one of its months.
 fn days_before_month(year: u32, month: u32) -> u32
     requires { (1 ≤ month) × (month ≤ 12) }
     ensures { result ≡ days_before_month year month }
 {
-    let mut days = 0;
-    for earlier in 1..month {
-        days += days_in_month(year, earlier);
+    (1..month).map(|earlier| days_in_month(year, earlier)).sum()
+}
+
+/// Of the periods from `first` to `last`, one after another, the one that so many days reach, and the days of it that have
+/// passed; the last one where the days are more.
+fn period_at<F: Fn(u32) -> u32>(first: u32, last: u32, days: u32, length: F) -> (u32, u32)
+    requires ordered { first ≤ last }
+    requires callable { F.IsAlwaysCallable length }
+    ensures within { (first ≤ result.0) × (result.0 ≤ last) }
+    ensures start { (start : ℕ → ℕ) → StartsBy (F.post length) first last start → start result.0 + result.1 ≡ start first + days }
+    ensures end { result.0 < last → (long : ℕ) × F.post length result.0 long × (result.1 < long) }
+{
+    let mut left = days;
+    for period in first..last {
+        let long = length(period);
+        if left < long {
+            return (period, left);
+        }
+        left -= long;
     }
-    days
+    (last, left)
 }
 
 impl Date {
@@ -77,12 +93,13 @@ impl Date {
     pub fn exists(&self) -> bool
         ensures { result ≡ date_exists self.now }
     {
-        let in_calendar = FIRST_YEAR <= self.year && self.year <= LAST_YEAR;
-        let in_year = 1 <= self.month && self.month <= 12;
-        in_calendar && in_year && 1 <= self.day && self.day <= days_in_month(self.year, self.month)
+        (FIRST_YEAR..=LAST_YEAR).contains(&self.year)
+            && (1..=12).contains(&self.month)
+            && (1..=days_in_month(self.year, self.month)).contains(&self.day)
     }
 
     /// The day number; None where there is no such date.
+    // Kept: no TryFrom here and below: a bare number does not say that it is a day.
     pub fn day_number(&self) -> Option<u32>
         ensures { result ≡ day_if self.now }
     {
@@ -97,20 +114,11 @@ impl Date {
     pub fn of_day(day: u32) -> Option<Date>
         ensures { result ≡ date_if day }
     {
-        if day < FIRST_DAY || day > LAST_DAY {
+        if !(FIRST_DAY..=LAST_DAY).contains(&day) {
             return None;
         }
-        let mut left = day - FIRST_DAY;
-        let mut year = FIRST_YEAR;
-        while left >= days_in_year(year) {
-            left -= days_in_year(year);
-            year += 1;
-        }
-        let mut month = 1;
-        while left >= days_in_month(year, month) {
-            left -= days_in_month(year, month);
-            month += 1;
-        }
+        let (year, left) = period_at(FIRST_YEAR, LAST_YEAR, day - FIRST_DAY, days_in_year);
+        let (month, left) = period_at(1, 12, left, |month| days_in_month(year, month));
         Some(Date {
             year,
             month,

@@ -1,12 +1,8 @@
-use Rattle.std.proofs.Common.{◌≡◌, ℕ, ◌+◌, ◌<◌, ◌≤◌, Bool, true, false, cond, eqb, List, [], ◌∷◌, ◌++◌, length, get_or, drop, Some, sym, refl, ap, ◌∙◌, ⊎_elim, arith}
-use Rattle.std.proofs.lemmas.List.{at_drop_more, at_drop_all}
+use Rattle.std.proofs.Common.{◌≡◌, ℕ, ◌+◌, ◌≤◌, Bool, true, false, cond, eqb, List, [], ◌∷◌, ◌++◌, length, Some, sym, refl, ap, ◌∙◌, ⊎_elim, arith}
 use Rattle.std.proofs.lemmas.Bool.{cases_Bool, eqb-true, ne_eqb}
 use Rattle.model.specs.declared.Row.{Row}
 use Rattle.cells.specs.declared.summary.Summary.{Summary}
-use Rattle.cells.specs.Cells.{step_seconds, every_step, interval_of, last_of, cells_of, cells_if, started, extended, extended_by, cells_by, summary_if, summary_with, count_in}
-
-by_bool : {P : Type 0} (b : Bool) → (b ≡ true → P) → (b ≡ false → P) → P
-by_bool b f g = ⊎_elim f g (cases_Bool b)
+use Rattle.cells.specs.Cells.{step_seconds, every_step, interval_of, last_of, cells_of, started, extended, extended_by, cells_by, summary_if, summary_with, count_in}
 
 pub extended_by_append : (s : Summary) (rs : List Row) (r : Row) → extended_by s (rs ++ (r ∷ [])) ≡ extended (extended_by s rs) r
 extended_by_append s [] r = refl
@@ -35,11 +31,12 @@ interval_on s (r ∷ rs) h =
     let step = step_seconds s.last r.at in
     let one = ne_eqb s.count 1 (λ e. omega arith) in
     let next = interval_on (extended s r) rs (omega arith) in
-    by_bool (eqb s.interval step)
-    (λ t. let same : (extended s r).interval ≡ s.interval = rw (one, t) (sym (eqb-true s.interval step t)) in
+    ⊎_elim
+    (λ (t : eqb s.interval step ≡ true). let same : (extended s r).interval ≡ s.interval = rw (one, t) (sym (eqb-true s.interval step t)) in
     next ∙ rw (same, t))
-    (λ f. let zero : (extended s r).interval ≡ 0 = rw (one, f) in
+    (λ (f : eqb s.interval step ≡ false). let zero : (extended s r).interval ≡ 0 = rw (one, f) in
     next ∙ rw (zero, f) (same_choice (every_step 0 r.at rs)))
+    (cases_Bool (eqb s.interval step))
 
 interval_is : (r : Row) (rs : List Row) → (extended_by (started r) rs).interval ≡ interval_of (r ∷ rs)
 interval_is r [] = refl
@@ -55,25 +52,10 @@ cells_by_lem r rs =
     let i = interval_is r rs in
     rw (n, f, l, i)
 
--- along a list that is read by its places
-pub by_more : (s : Summary) (rows : List Row) (i : ℕ) (x : Row) → i < length rows → x ≡ get_or rows i x → extended_by s (drop i rows) ≡ extended_by (extended s x) (drop (i + 1) rows)
-by_more s rows i x h e = at_drop_more (extended_by s) rows i x h ∙ ap (λ y. extended_by (extended s y) (drop (i + 1) rows)) (sym e)
-
-pub by_all : (s : Summary) (rows : List Row) (i : ℕ) → length rows ≤ i → extended_by s (drop i rows) ≡ s
-by_all s rows i h = at_drop_all (extended_by s) rows i h
-
-pub cells_from : (rows : List Row) (x : Row) → 0 < length rows → x ≡ get_or rows 0 x → Some (cells_by (extended_by (started x) (drop 1 rows))) ≡ cells_if rows
-cells_from [] x h e = absurd (omega arith)
-cells_from (r ∷ rs) x h e = ap (λ y. Some (cells_by (extended_by (started y) rs))) e ∙ ap Some (cells_by_lem r rs)
-
 -- one row more at the end
 pub summary_push : (rs : List Row) (r : Row) → summary_if (rs ++ (r ∷ [])) ≡ Some (summary_with (summary_if rs) r)
 summary_push [] r = refl
 summary_push (x ∷ rs) r = ap (λ s. Some s) (extended_by_append (started x) rs r)
-
-pub cells_by_summary : (rs : List Row) (s : Summary) → summary_if rs ≡ Some s → cells_if rs ≡ Some (cells_by s)
-cells_by_summary [] s e = absurd (let z : ◌≡◌ {A = ℕ} 0 1 = cc in omega arith)
-cells_by_summary (r ∷ rs) s e = let f : extended_by (started r) rs ≡ s = cc in ap Some (sym (cells_by_lem r rs) ∙ ap cells_by f)
 
 pub count_summary : (rs : List Row) → count_in (summary_if rs) ≡ length rs
 count_summary [] = refl

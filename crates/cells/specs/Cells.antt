@@ -1,6 +1,6 @@
 use Rattle.std.specs.Prelude.{ℕ, ◌+◌, ◌-◌, ◌/◌, ◌%◌, Bool, true, cond, ◌&&◌, ◌||◌, List, [], ◌∷◌, length, Some, None, Option, ◌==◌, nat_le}
 use Rattle.calendar.specs.declared.instant.Instant.{Instant}
-use Rattle.calendar.specs.Instants.{moment}
+use Rattle.calendar.specs.Instants.{moment, day_of_instant}
 use Rattle.model.specs.declared.Row.{Row}
 use Rattle.cells.specs.declared.summary.DaySecond.{DaySecond}
 use Rattle.cells.specs.declared.summary.Cells.{Cells}
@@ -34,7 +34,7 @@ last_of at (r ∷ rs) = last_of r.at rs
 
 -- the cells of one row or more
 abbrev pub cells_of : Row → List Row → Cells
-cells_of r rs = record { count = length (r ∷ rs); start = day_second r.at; end = day_second (last_of r.at rs); interval = interval_of (r ∷ rs) }
+cells_of r rs = record { count = length (r ∷ rs); start = day_second r.at; end = day_second (last_of r.at rs); interval = interval_of (r ∷ rs); in_calendar = (day_of_instant r.at, day_of_instant (last_of r.at rs)) }
 
 abbrev pub cells_if : List Row → Option Cells
 cells_if [] = None
@@ -55,7 +55,7 @@ extended_by s [] = s
 extended_by s (r ∷ rs) = extended_by (extended s r) rs
 
 abbrev pub cells_by : Summary → Cells
-cells_by s = record { count = s.count; start = day_second s.first; end = day_second s.last; interval = s.interval }
+cells_by s = record { count = s.count; start = day_second s.first; end = day_second s.last; interval = s.interval; in_calendar = (day_of_instant s.first, day_of_instant s.last) }
 
 -- the summary of rows; None where there is no row
 abbrev pub summary_if : List Row → Option Summary

@@ -1,4 +1,4 @@
-use Rattle.std.specs.Prelude.{Bool, true, false}
+use Rattle.std.specs.Prelude.{Bool, true, false, cond, ℤ, pos, negsuc, int_lt}
 use Rattle.model.specs.declared.LeapFlag.{LeapFlag}
 use Rattle.model.specs.declared.LeapFlag.TheVariants.{Removed, NoLeap, Added}
 
@@ -18,3 +18,13 @@ abbrev pub allows : LeapFlag → LeapFlag → Bool
 allows NoLeap f = true
 allows Removed f = same_flag Removed f
 allows Added f = same_flag Added f
+
+-- the number of a flag in a record
+abbrev pub flag_number : LeapFlag → ℤ
+flag_number Removed = negsuc 0
+flag_number NoLeap = pos 0
+flag_number Added = pos 1
+
+-- the flag of a number, by its sign
+abbrev pub flag_of : ℤ → LeapFlag
+flag_of v = cond (int_lt v (pos 0)) Removed (cond (int_lt (pos 0) v) Added NoLeap)

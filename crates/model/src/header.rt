@@ -2,7 +2,7 @@
 use crate::name::Name;
 
 /// What H1 holds: who predicted what, and when.
-#[derive(Clone, Copy, PartialEq, Debug)]
+#[derive(Clone, Copy, PartialEq, Eq, Debug)]
 pub struct Origin {
     pub source: Name,
     pub year: i64,
@@ -16,7 +16,7 @@ pub struct Origin {
 }
 
 /// What H2 holds apart from start, end and interval.
-#[derive(Clone, Copy, PartialEq, Debug)]
+#[derive(Clone, Copy, PartialEq, Eq, Debug)]
 pub struct Satellite {
     pub ilrs_number: i64,
     pub sic: i64,
@@ -30,19 +30,19 @@ pub struct Satellite {
 }
 
 /// What H3 holds: the expected accuracy, nine whole numbers.
-#[derive(Clone, Copy, PartialEq, Debug)]
+#[derive(Clone, Copy, PartialEq, Eq, Debug)]
 pub struct Accuracy {
     pub values: [i64; 9],
 }
 
 /// What H5 holds: the offset from the centre of mass, in tenths of a millimetre.
-#[derive(Clone, Copy, PartialEq, Debug)]
+#[derive(Clone, Copy, PartialEq, Eq, Debug)]
 pub struct Offset {
     pub value: i64,
 }
 
 /// The header of a sheet.
-#[derive(Clone, Copy, PartialEq, Debug)]
+#[derive(Clone, Copy, PartialEq, Eq, Debug)]
 pub struct Header {
     pub origin: Origin,
     pub satellite: Satellite,

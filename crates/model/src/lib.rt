@@ -9,7 +9,7 @@ pub mod rows;
 use calendar::instant::Instant;
 
 /// A leap second announced for the day: removed, none, or added.
-#[derive(Clone, Copy, PartialEq, Debug)]
+#[derive(Clone, Copy, PartialEq, Eq, Debug)]
 pub enum LeapFlag {
     Removed,
     NoLeap,
@@ -18,7 +18,7 @@ pub enum LeapFlag {
 
 /// Three coordinates, in whole units of the last decimal place of their record: millimetres for a position,
 /// micrometres per second for a velocity.
-#[derive(Clone, Copy, PartialEq, Debug)]
+#[derive(Clone, Copy, PartialEq, Eq, Debug)]
 pub struct Vector {
     pub x: i64,
     pub y: i64,
@@ -26,7 +26,7 @@ pub struct Vector {
 }
 
 /// One row of a prediction: a position record with its velocity record, if any.
-#[derive(Clone, Copy, PartialEq, Debug)]
+#[derive(Clone, Copy, PartialEq, Eq, Debug)]
 pub struct Row {
     pub at: Instant,
     pub flag: LeapFlag,

@@ -5,8 +5,9 @@ pub mod texts;
 pub const LONGEST_NAME: usize = 10;
 
 /// A text of at most ten bytes; the bytes past its length are 0.
-#[derive(Clone, Copy, PartialEq, Debug)]
+// Kept: no heap, and the kit's texts of a fixed size hold UTF-8 alone (ArrayString) or cannot be copied (ArrayVec).
+#[derive(Clone, Copy, PartialEq, Eq, Debug)]
 pub struct Name {
-    pub bytes: [u8; 10],
+    pub bytes: [u8; LONGEST_NAME],
     pub len: usize,
 }

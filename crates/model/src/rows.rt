@@ -1,9 +1,13 @@
-//! Rows to begin with.
+//! Rows to begin with, and how many there may be.
 ghost use Rattle.std.specs.Prelude.{◌≡◌, pos, None};
 ghost use Rattle.model.specs.declared.LeapFlag.TheVariants.{NoLeap};
 
 use crate::{LeapFlag, Row, Vector};
+use calendar::date::FIRST_DAY;
 use calendar::instant::Instant;
+
+/// The most rows that a sheet may have.
+pub const MOST_ROWS: usize = 8_192;
 
 impl Row {
     /// A row to fill memory with: the first instant of the calendar, at the origin.
@@ -13,7 +17,7 @@ impl Row {
     {
         Row {
             at: Instant {
-                day: 40_587,
+                day: FIRST_DAY,
                 micros: 0,
             },
             flag: LeapFlag::NoLeap,

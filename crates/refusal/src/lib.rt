@@ -8,7 +8,7 @@ use std::fmt;
 
 /// Why a call was refused. Each case holds just what applies to it: the line, counted from 1 (0 where the
 /// refusal is of the whole file, block or result), and the word of that line, counted from 1.
-#[derive(Clone, Copy, PartialEq, Debug)]
+#[derive(Clone, Copy, PartialEq, Eq, Debug)]
 pub enum Refusal {
     /// 11: a byte that no line may have, or the last line's end is missing.
     ForbiddenByte { line: usize },
@@ -94,31 +94,32 @@ impl Refusal {
     }
 
     /// The line that was refused, counted from 1; 0 where none applies.
+    // Kept: 0 where none applies: programs print it so, and an Option would become 0 at each use.
     pub fn line(&self) -> usize
         ensures { result ≡ line_of self.now }
     {
         match self {
-            Refusal::ForbiddenByte { line } => *line,
-            Refusal::TooLong { line } => *line,
-            Refusal::UnknownRecord { line } => *line,
-            Refusal::OutOfPlace { line } => *line,
-            Refusal::WordCount { line } => *line,
-            Refusal::WrongForm { line, .. } => *line,
-            Refusal::OutOfRange { line, .. } => *line,
-            Refusal::NotAfter { line } => *line,
-            Refusal::FlagChanges { line } => *line,
-            Refusal::TooManyRows { line } => *line,
+            Refusal::ForbiddenByte { line }
+            | Refusal::TooLong { line }
+            | Refusal::UnknownRecord { line }
+            | Refusal::OutOfPlace { line }
+            | Refusal::WordCount { line }
+            | Refusal::WrongForm { line, .. }
+            | Refusal::OutOfRange { line, .. }
+            | Refusal::NotAfter { line }
+            | Refusal::FlagChanges { line }
+            | Refusal::TooManyRows { line } => *line,
             _ => 0,
         }
     }
 
     /// The word that was refused, counted from 1 at the record type; 0 where none applies.
+    // Kept: 0 where none applies: programs print it so, and an Option would become 0 at each use.
     pub fn word(&self) -> usize
         ensures { result ≡ word_of self.now }
     {
         match self {
-            Refusal::WrongForm { word, .. } => *word,
-            Refusal::OutOfRange { word, .. } => *word,
+            Refusal::WrongForm { word, .. } | Refusal::OutOfRange { word, .. } => *word,
             _ => 0,
         }
     }
@@ -127,9 +128,12 @@ impl Refusal {
 /// `refused N line L word W`, as the programs print it.
 impl fmt::Display for Refusal {
     fn fmt<W: fmt::Write>(&self, f: &mut fmt::Formatter<W>) -> fmt::Result {
-        let number = self.number();
-        let line = self.line();
-        let word = self.word();
-        write!(f, "refused {number} line {line} word {word}")
+        write!(
+            f,
+            "refused {} line {} word {}",
+            self.number(),
+            self.line(),
+            self.word()
+        )
     }
 }

@@ -2,7 +2,8 @@
 ghost use Rattle.std.specs.Prelude.{◌≡◌, ◌/◌, ◌%◌};
 ghost use Rattle.calendar.specs.Instants.{moment, instant_if};
 
-use crate::instant::{DAY_MICROS, Instant};
+use crate::date::{FIRST_DAY, LAST_DAY};
+use crate::instant::{DAY_MICROS, Instant, Timestamp};
 use refusal::Refusal;
 
 impl Instant {
@@ -10,17 +11,18 @@ impl Instant {
     pub fn new(day: u32, micros: u64) -> Result<Instant, Refusal>
         ensures { result ≡ instant_if day micros }
     {
-        if day < 40_587 || day > 88_068 || micros >= DAY_MICROS {
+        if !(FIRST_DAY..=LAST_DAY).contains(&day) || micros >= DAY_MICROS {
             return Err(Refusal::OutsideCalendar);
         }
         Ok(Instant { day, micros })
     }
 
     /// The microseconds from the start of day 0.
+    // Kept: no From and no TryFrom: a bare number does not say that it counts microseconds from day 0.
     pub fn joined(self) -> u64
         ensures { result ≡ moment self }
     {
-        self.day as u64 * DAY_MICROS + self.micros
+        u64::from(self.day) * DAY_MICROS + self.micros
     }
 
     /// The instant so many microseconds from the start of day 0; 29 outside the calendar.
@@ -35,5 +37,16 @@ impl Instant {
         ensures { result ≡ self.micros / 1000000 }
     {
         (self.micros / 1_000_000) as u32
+    }
+}
+
+/// The instant that was handed in; 29 outside the calendar.
+impl TryFrom<Timestamp> for Instant {
+    type Error = Refusal;
+
+    ghost try_from_gives = { λ at r. r ≡ instant_if at.day at.micros };
+
+    fn try_from(at: Timestamp) -> Result<Instant, Refusal> {
+        Instant::new(at.day, at.micros)
     }
 }

@@ -21,10 +21,11 @@ fn step_seconds(from: Instant, to: Instant) -> u32
     }
 }
 
-impl DaySecond {
-    pub fn of(at: Instant) -> DaySecond
-        ensures { result ≡ day_second at }
-    {
+/// An instant without its fraction of a second.
+impl From<Instant> for DaySecond {
+    ghost from_gives = { λ at r. r ≡ day_second at };
+
+    fn from(at: Instant) -> DaySecond {
         DaySecond {
             day: at.day,
             second: at.second(),
@@ -52,14 +53,14 @@ impl Summary {
         ensures { self.new ≡ extended self.old row }
     {
         let step = step_seconds(self.last, row.at);
-        if self.count == 1 || self.interval == step {
-            self.interval = step;
-        } else {
-            self.interval = 0;
-        }
-        self.count += 1;
-        self.last = row.at;
-        self.flag = row.flag;
+        let steady = self.count == 1 || self.interval == step;
+        *self = Summary {
+            count: self.count + 1,
+            last: row.at,
+            flag: row.flag,
+            interval: if steady { step } else { 0 },
+            ..*self
+        };
     }
 
     pub fn cells(&self) -> Cells
@@ -67,8 +68,8 @@ impl Summary {
     {
         Cells {
             count: self.count,
-            start: DaySecond::of(self.first),
-            end: DaySecond::of(self.last),
+            start: self.first.into(),
+            end: self.last.into(),
             interval: self.interval,
         }
     }
@@ -78,12 +79,10 @@ impl Summary {
 pub fn cells_of(rows: &[Row]) -> Option<Cells>
     ensures { result ≡ cells_if rows.now }
 {
-    if rows.len() == 0 {
-        return None;
-    }
-    let mut summary = Summary::start(rows[0]);
-    for i in 1..rows.len() {
-        summary.add(rows[i]);
+    let (first, rest) = rows.split_first()?;
+    let mut summary = Summary::start(*first);
+    for row in rest {
+        summary.add(*row);
     }
     Some(summary.cells())
 }

@@ -5,14 +5,13 @@ use crate::name::{LONGEST_NAME, Name};
 
 impl Name {
     /// The name with these bytes; of a longer text its first ten.
+    // Kept: no From, which would not say that a longer text is cut.
     pub fn of(text: &[u8]) -> Name
         ensures { result ≡ name_of text.now }
     {
         let len = text.len().min(LONGEST_NAME);
-        let mut bytes = [0u8; 10];
-        for i in 0..len {
-            bytes[i] = text[i];
-        }
+        let mut bytes = [0; LONGEST_NAME];
+        bytes[..len].copy_from_slice(&text[..len]);
         Name { bytes, len }
     }
 
@@ -20,6 +19,6 @@ impl Name {
     pub fn text(&self) -> &[u8]
         ensures { result.now ≡ name_text self.now }
     {
-        &self.bytes[0..self.len.min(LONGEST_NAME)]
+        &self.bytes[..self.len.min(LONGEST_NAME)]
     }
 }

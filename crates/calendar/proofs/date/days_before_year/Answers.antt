@@ -1,12 +1,14 @@
-use Rattle.std.proofs.Common.{sym, arith}
-use Rattle.calendar.proofs.Dates.{no_years, year_fits, year_more}
+use Rattle.std.proofs.Common.{rules, ◌-◌, ◌∙◌, refl, arith}
+use Rattle.std.proofs.lemmas.Iterator.{YieldsList-from_map, YieldsList-from_range}
+use Rattle.std.proofs.lemmas.Iterator.Consumers.{sum_from_yields_List, fits_from_yields_list}
+use Rattle.calendar.specs.Dates.{days_in_year}
+use Rattle.calendar.proofs.Dates.{years_sum, year_fits}
 use Rattle.calendar.proofs.date.days_before_year.Goals as goal
 
-pub loop-earlier-init : goal.loop-earlier-init
-loop-earlier-init c = sym no_years
+pub sum-requires-clause-fits : goal.sum-requires-clause-fits
+sum-requires-clause-fits c =
+    fits_from_yields_list _ _ (YieldsList-from_map _ days_in_year (YieldsList-from_range 1970 c.args.year (c.args.year - 1970) c.map.ensures.source refl) c.map.ensures.closure (λ x r q k. search rules)) (omega (arith, years_sum c.args.year, year_fits c.args.year c.requires.0 c.requires.1))
 
-pub overflow_add-days : goal.overflow_add-days
-overflow_add-days c = omega (arith, year_fits c.loop-earlier.earlier (omega arith) (omega arith))
-
-pub loop-earlier-preserved : goal.loop-earlier-preserved
-loop-earlier-preserved c = omega (arith, year_more c.loop-earlier.earlier (omega arith))
+pub returns : goal.returns
+returns c =
+    sum_from_yields_List _ _ c.sum.ensures.ran (YieldsList-from_map _ days_in_year (YieldsList-from_range 1970 c.args.year (c.args.year - 1970) c.map.ensures.source refl) c.map.ensures.closure (λ x r q k. search rules)) ∙ years_sum c.args.year
