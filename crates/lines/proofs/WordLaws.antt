@@ -1,6 +1,6 @@
-use Rattle.std.proofs.Common.{◌≡◌, ℕ, zero, suc, ◌+◌, ◌-◌, ◌<◌, ◌≤◌, true, false, cond, eqb, List, [], ◌∷◌, ◌++◌, length, get_or, take, drop, sym, ap, ◌∙◌, ⊎_elim, add-zero, arith}
-use Rattle.std.proofs.lemmas.List.{at_drop_more, at_drop_all, take-append-drop, length-take-le, get_or-take, get_or-drop, length-drop, take_rest, get_or_past}
-use Rattle.std.proofs.lemmas.Bool.{ne_eqb, eq-eqb, cases_lt}
+use Rattle.std.proofs.Common.{refl, add-one, ◌≡◌, ℕ, zero, suc, ◌+◌, ◌-◌, ◌<◌, ◌≤◌, true, false, cond, eqb, List, [], ◌∷◌, ◌++◌, length, get_or, take, drop, sym, ap, ◌∙◌, ⊎_elim, arith}
+use Rattle.std.proofs.lemmas.List.{at_drop_more, at_drop_all, take-append-drop, length-take-le, get_or-take, take_rest}
+use Rattle.std.proofs.lemmas.Bool.{cond_both, ne_eqb, eq-eqb, cases_lt}
 use Rattle.lines.specs.Words.{words, stops, on_first}
 
 pub skip_more : (xs : List ℕ) (i : ℕ) → i < length xs → get_or xs i 0 ≡ 32 → words (drop i xs) ≡ words (drop (i + 1) xs)
@@ -8,8 +8,10 @@ skip_more xs i h e =
     let step : words (drop i xs) ≡ cond (eqb (get_or xs i 0) 32) (words (drop (i + 1) xs)) (cond (stops (drop (i + 1) xs)) ((get_or xs i 0 ∷ []) ∷ words (drop (i + 1) xs)) (on_first (get_or xs i 0) (words (drop (i + 1) xs)))) = at_drop_more words xs i 0 h in
     step ∙ rw (eq-eqb _ _ e)
 
-pub skip_all : (xs : List ℕ) (i : ℕ) → length xs ≤ i → words (drop i xs) ≡ []
-skip_all xs i h = at_drop_all words xs i h
+-- spaces in front of a line's words
+pub skipped : (xs : List ℕ) (n : ℕ) → n ≤ length xs → ((k : ℕ) → k < n → get_or xs k 0 ≡ 32) → words (drop n xs) ≡ words xs
+skipped xs zero h all = refl
+skipped xs (suc n) h all = ap (λ k. words (drop k xs)) (sym (add-one n)) ∙ sym (skip_more xs n (omega arith) (all n (omega arith))) ∙ skipped xs n (omega arith) (λ k l. all k (omega arith))
 
 -- no byte of w is a space
 abbrev pub Solid : List ℕ → Type 0
@@ -48,17 +50,14 @@ cut_word (b ∷ xs) (suc n) some f within before found =
 pub rest_same : (xs : List ℕ) (i : ℕ) (ws : List (List ℕ)) → words (drop i xs) ≡ ws → words (take (length xs - i) (drop i xs)) ≡ ws
 rest_same xs i ws e = rw take_rest e
 
-pub rest_first : (xs : List ℕ) (i : ℕ) → (get_or xs i 0 ≡ 32 → ⊥) → get_or (take (length xs - i) (drop i xs)) 0 0 ≡ 32 → ⊥
-rest_first xs i f e =
-    let h : get_or (drop i xs) 0 0 ≡ 32 = rw take_rest at e in
-    f (sym (get_or-drop i xs 0 0 ∙ ap (λ n. get_or xs n 0) (add-zero i)) ∙ h)
+-- no more words than bytes
+first_le : (b : ℕ) (ws : List (List ℕ)) → length (on_first b ws) ≤ length ws + 1
+first_le b [] = omega arith
+first_le b (w ∷ ws) = omega arith
 
-pub rest_short : (xs : List ℕ) (i : ℕ) → length (take (length xs - i) (drop i xs)) ≤ length xs
-rest_short xs i = simp (take_rest, length-drop) (omega arith)
-
-pub past_first : (xs : List ℕ) (i : ℕ) → length xs ≤ i → get_or xs i 0 ≡ 32 → ⊥
-past_first xs i h e = omega (arith, get_or_past xs i 0 h, e)
-
-pub cut_less : (xs : List ℕ) (n m : ℕ) → 0 < length xs → (get_or xs 0 0 ≡ 32 → ⊥) → (n < length xs → get_or xs n 0 ≡ 32) → n ≤ length xs → m ≡ length xs - n → m < length xs
-cut_less xs zero m some f found within e = absurd (f (found some))
-cut_less xs (suc n) m some f found within e = omega arith
+pub words_le : (xs : List ℕ) → length (words xs) ≤ length xs
+words_le [] = omega arith
+words_le (b ∷ bs) =
+    let h = words_le bs in
+    cond_both (eqb b 32) _ _ (λ ws. length ws ≤ suc (length bs)) (λ _. omega arith)
+    (λ _. cond_both (stops bs) _ _ (λ ws. length ws ≤ suc (length bs)) (λ _. omega arith) (λ _. omega (arith, first_le b (words bs))))

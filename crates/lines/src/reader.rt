@@ -3,12 +3,13 @@ ghost use Rattle.std.specs.Prelude.{◌≡◌, ◌+◌, ◌<◌, ◌≤◌, [], 
 ghost use Rattle.lines.specs.Texts.{text_of, on_line};
 ghost use Rattle.lines.specs.Lines.{next_line, lists, bytes_taken, lines_taken};
 
-use crate::scan::{LineEnd, scan};
+use crate::scan::scan;
 use refusal::Refusal;
 
 mod place;
 
 /// Reads a text line by line off its own bytes.
+// Kept: the text with the place in it, since the contracts of new, next and next_line name the text and the place.
 #[derive(Drop)]
 pub struct Lines<'f> {
     file: &'f [u8],
@@ -38,25 +39,15 @@ impl<'f> Lines<'f> {
         ensures at { self.new.at ≡ self.old.at + bytes_taken (lists result) }
         ensures line { self.new.line ≡ self.old.line + lines_taken (lists result) }
     {
-        let file = self.file;
-        let at = self.at;
-        if at >= file.len() {
+        let rest = &self.file[self.at..];
+        if rest.is_empty() {
             return Ok(None);
         }
-        match scan(&file[at..]) {
-            LineEnd::After(n) => {
-                let line = &file[at..at + n];
-                self.at = at + n + 1;
-                self.line += 1;
-                Ok(Some(line))
-            }
-            LineEnd::Forbidden => Err(Refusal::ForbiddenByte {
-                line: self.line + 1,
-            }),
-            LineEnd::TooLong => Err(Refusal::TooLong {
-                line: self.line + 1,
-            }),
-        }
+        let number = self.line + 1;
+        let n = scan(rest).map_err(|fault| fault.at(number))?;
+        self.at += n + 1;
+        self.line = number;
+        Ok(Some(&rest[..n]))
     }
 
     /// The next line without its end; None where no line follows that is one.
@@ -66,9 +57,6 @@ impl<'f> Lines<'f> {
         ensures line { MatchOption result (0 ≤ 0) (λ _. self.new.line ≡ self.old.line + 1) }
         ensures further { MatchOption result (0 ≤ 0) (λ _. self.old.at < self.new.at) }
     {
-        match self.next() {
-            Ok(line) => line,
-            Err(_) => None,
-        }
+        self.next().unwrap_or(None)
     }
 }

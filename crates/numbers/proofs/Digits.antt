@@ -37,6 +37,3 @@ units_short n d h le =
     let k : n + 1 ≤ 10 ^ 12 = omega arith in
     let q : (n + 1) * 10 ^ d ≤ 10 ^ 12 * 10 ^ 6 = mul-le-mul k (pow_le d 6 le) in
     omega (arith, add-mul n 1 (10 ^ d))
-
-pub units_below : (n d : ℕ) → n + 10 ^ d ≤ 10 ^ 18 → n < 10 ^ 18
-units_below n d h = omega (arith, one-le-pow d 10 (omega arith))

@@ -29,7 +29,7 @@ run_digits (b ∷ xs) =
     (λ e. let s : 1 + digit_run xs ≡ suc (digit_run xs) = omega arith in rw (e, s) (digit_from b e, run_digits xs))
     (λ e. rw e tt)
 
-run_full : (xs : List ℕ) → digit_run xs ≡ length xs → AllByRecursion Digit xs
+pub run_full : (xs : List ℕ) → digit_run xs ≡ length xs → AllByRecursion Digit xs
 run_full [] h = tt
 run_full (b ∷ xs) h =
     by_bool (is_digit b)
@@ -43,6 +43,9 @@ run_over (b ∷ ds) rest h = rw (digit_test b h.0, run_over ds rest h.1) (omega 
 run_all_digits : (ds : List ℕ) → AllByRecursion Digit ds → digit_run ds ≡ length ds
 run_all_digits [] h = refl
 run_all_digits (b ∷ ds) h = rw (digit_test b h.0, run_all_digits ds h.1) (omega arith)
+
+pub run_front : (xs front : List ℕ) (n : ℕ) → n ≡ digit_run xs → front ≡ take n xs → digit_run front ≡ length front
+run_front xs front n e f = rw (f, e) (run_all_digits (take (digit_run xs) xs) (run_digits xs))
 
 -- the sign
 pub sign_split : (w : List ℕ) → (s : List ℕ) × (SignText (has_minus w) s × (w ≡ s ++ without_sign w))
@@ -116,9 +119,3 @@ parts_whole w negative front p = parts_word w negative front [] p refl
 
 pub parts_decimal : (w : List ℕ) (negative : Bool) (front back : List ℕ) → Parts w negative front (46 ∷ back) → AllByRecursion Digit back → decimal_word negative front back ≡ word_of w
 parts_decimal w negative front back p h = sym (rw (eq-eqb (digit_run back) (length back) (run_all_digits back h))) ∙ parts_word w negative front (46 ∷ back) p refl
-
-pub whole_parts : (w : List ℕ) (negative : Bool) (front : List ℕ) → whole_word negative front ≡ word_of w → Parts w negative front []
-whole_parts w negative front e = let P : Shape → Type 0 = Holds w in subst P (sym e) (word_holds w)
-
-pub decimal_parts : (w : List ℕ) (negative : Bool) (front back : List ℕ) → decimal_word negative front back ≡ word_of w → Parts w negative front (46 ∷ back) × AllByRecursion Digit back
-decimal_parts w negative front back e = let P : Shape → Type 0 = Holds w in subst P (sym e) (word_holds w)

@@ -4,6 +4,7 @@
 #![tactic(auto)]
 
 pub mod law;
+pub mod parts;
 pub mod value;
 pub mod word;
 pub mod write;

@@ -1,78 +1,58 @@
 //! The values of words.
 
-ghost use Rattle.std.specs.Prelude.{◌≡◌, ◌+◌, ◌*◌, ◌^◌, ◌<◌, ◌≤◌, true, length};
-ghost use Rattle.std.specs.List.{AllByRecursion};
-ghost use Rattle.numbers.specs.Shapes.{Digit};
+ghost use Rattle.std.specs.Prelude.{◌≡◌, ◌+◌, ◌*◌, ◌^◌, ◌<◌, ◌≤◌, length, cond, Some, None, IfSome};
 ghost use Rattle.numbers.specs.Values.{digits_value, takes_fraction, fraction_units, signed_value, whole_of, decimal_of};
 
+use crate::parts::{Digits, Whole};
 use crate::word::Word;
 
-/// The number that digits write.
-fn digits_value(digits: &[u8]) -> u64
-    requires { (AllByRecursion Digit digits.now) × (length digits.now ≤ 12) }
-    ensures is { result ≡ digits_value digits.now }
-    ensures small { result < 10 ^ length digits.now }
-{
-    let mut value = 0;
-    for digit in digits {
-        value = value * 10 + u64::from(*digit - b'0');
-    }
-    value
+/// How many digits after the point a field has.
+#[derive(Clone, Copy)]
+struct Places {
+    count: u8,
+    ghost few: { count ≤ 6 },
 }
 
-/// The number with its sign.
-fn signed_value(negative: bool, value: u64) -> i64
-    requires { value < 10 ^ 18 }
-    ensures { result ≡ signed_value negative value }
-{
-    if negative {
-        -(value as i64)
-    } else {
-        value as i64
+impl Whole<'_> {
+    /// The number of this size with the sign that is written.
+    fn signed(&self, size: u64) -> i64
+        requires { size < 10 ^ 18 }
+        ensures { result ≡ signed_value self.now.negative size }
+    {
+        if self.negative {
+            -(size as i64)
+        } else {
+            size as i64
+        }
     }
 }
 
-/// Ten to the power of `places`, the units of the last place in one whole.
-fn power_of_ten(places: u8) -> u64
-    requires { places ≤ 6 }
-    ensures { result ≡ 10 ^ places }
-{
-    10u64.pow(u32::from(places))
-}
+impl Places {
+    /// The digits before the point in units of the last place.
+    fn whole_units(self, whole: &Whole) -> u64
+        ensures is { result ≡ digits_value whole.now.digits.bytes.now * 10 ^ self.count }
+        ensures room { result + 10 ^ self.count ≤ 10 ^ 18 }
+    {
+        whole.digits.value() * 10u64.pow(u32::from(self.count))
+    }
 
-/// The digits before the point in units of the last place.
-fn whole_units(digits: &[u8], places: u8) -> u64
-    requires { (AllByRecursion Digit digits.now) × ((length digits.now ≤ 12) × (places ≤ 6)) }
-    ensures is { result ≡ digits_value digits.now * 10 ^ places }
-    ensures room { result + 10 ^ places ≤ 10 ^ 18 }
-{
-    digits_value(digits) * power_of_ten(places)
-}
-
-/// Whether a field of this many places takes these digits after the point.
-fn takes_fraction(fraction: &[u8], places: u8) -> bool
-    ensures { result ≡ takes_fraction fraction.now places }
-{
-    fraction.len() <= usize::from(places)
-}
-
-/// The digits after the point in units of the last place.
-fn fraction_units(fraction: &[u8], places: u8) -> u64
-    requires { (AllByRecursion Digit fraction.now) × ((takes_fraction fraction.now places ≡ true) × (places ≤ 6)) }
-    ensures is { result ≡ fraction_units fraction.now places }
-    ensures small { result < 10 ^ places }
-{
-    digits_value(fraction) * power_of_ten(places - fraction.len() as u8)
+    /// The digits after the point in units of the last place; `None` where they are more than the places.
+    fn fraction_units(self, fraction: &Digits) -> Option<u64>
+        ensures is { result ≡ cond (takes_fraction fraction.now.bytes.now self.count) (Some (fraction_units fraction.now.bytes.now self.count)) None }
+        ensures small { IfSome result (λ n. n < 10 ^ self.count) }
+    {
+        let left = usize::from(self.count).checked_sub(fraction.bytes.len())?;
+        Some(fraction.value() * 10u64.pow(left as u32))
+    }
 }
 
 /// The value of a whole word, `None` where the word is not whole.
 pub fn whole_value(bytes: &[u8]) -> Option<i64>
     ensures { result ≡ whole_of bytes.now }
 {
-    match Word::of(bytes) {
-        Word::Whole { negative, digits } => Some(signed_value(negative, digits_value(digits))),
-        Word::Decimal { .. } => None,
-        Word::Text { .. } => None,
+    match Word::from(bytes) {
+        Word::Whole(whole) => Some(whole.signed(whole.digits.value())),
+        _ => None,
     }
 }
 
@@ -82,21 +62,12 @@ pub fn decimal_value(bytes: &[u8], places: u8) -> Option<i64>
     requires { places ≤ 6 }
     ensures { result ≡ decimal_of bytes.now places }
 {
-    match Word::of(bytes) {
-        Word::Whole { negative, digits } => Some(signed_value(
-            negative,
-            whole_units(digits, places),
-        )),
-        Word::Decimal {
-            negative,
-            digits,
-            fraction,
-        } => {
-            if !takes_fraction(fraction, places) {
-                return None;
-            }
-            let units = whole_units(digits, places) + fraction_units(fraction, places);
-            Some(signed_value(negative, units))
+    let places = Places { count: places };
+    match Word::from(bytes) {
+        Word::Whole(whole) => Some(whole.signed(places.whole_units(&whole))),
+        Word::Decimal { whole, fraction } => {
+            let units = places.whole_units(&whole) + places.fraction_units(&fraction)?;
+            Some(whole.signed(units))
         }
         Word::Text { .. } => None,
     }

@@ -4,19 +4,16 @@ ghost use Rattle.std.specs.Prelude.{◌≡◌, ◌≤◌, length};
 ghost use Rattle.numbers.specs.Shapes.{digit_run, has_minus, without_sign, word_of};
 ghost use Rattle.numbers.specs.Forms.{shape_of};
 
+use crate::parts::{Digits, MOST_DIGITS, Whole};
+
 /// A word, sorted by its form; the cases hold parts of the line.
 #[derive(Clone, Copy)]
 pub enum Word<'l> {
-    /// An optional sign, then 1 to 12 digits.
-    Whole {
-        negative: bool,
-        digits: &'l [u8],
-    },
+    Whole(Whole<'l>),
     /// The same, a point, and the digits after it.
     Decimal {
-        negative: bool,
-        digits: &'l [u8],
-        fraction: &'l [u8],
+        whole: Whole<'l>,
+        fraction: Digits<'l>,
     },
     /// Any other word.
     Text {
@@ -24,23 +21,19 @@ pub enum Word<'l> {
     },
 }
 
-/// The most digits before the point: with six places after it, the value fits an `i64`.
-const MOST_DIGITS: usize = 12;
-
 /// How many digits stand at the front.
 fn digit_run(bytes: &[u8]) -> usize
     ensures is { result ≡ digit_run bytes.now }
     ensures inside { result ≤ length bytes.now }
 {
-    for (i, byte) in bytes.iter().enumerate() {
-        if !byte.is_ascii_digit() {
-            return i;
-        }
-    }
-    bytes.len()
+    bytes
+        .iter()
+        .position(|byte| !byte.is_ascii_digit())
+        .unwrap_or(bytes.len())
 }
 
 /// Whether the word has a minus sign, and what follows its sign.
+// Kept: a bool, since the only question of a sign is whether the number is negative; an enum of two signs asks it at each use.
 pub fn split_sign<'l>(bytes: &'l [u8]) -> (bool, &'l [u8])
     ensures negative { result.0 ≡ has_minus bytes.now }
     ensures rest { result.1.now ≡ without_sign bytes.now }
@@ -52,22 +45,23 @@ pub fn split_sign<'l>(bytes: &'l [u8]) -> (bool, &'l [u8])
     }
 }
 
-impl<'l> Word<'l> {
-    /// The word that these bytes are.
-    pub fn of(bytes: &'l [u8]) -> Word<'l>
-        ensures { shape_of result ≡ word_of bytes.now }
-    {
+/// The word that the bytes are.
+impl<'l> From<&'l [u8]> for Word<'l> {
+    ghost from_gives = { λ bytes r. shape_of r ≡ word_of bytes.now };
+
+    fn from(bytes: &'l [u8]) -> Word<'l> {
         let (negative, body) = split_sign(bytes);
-        let (digits, rest) = body.split_at(digit_run(body));
-        if digits.is_empty() || digits.len() > MOST_DIGITS {
+        let (front, rest) = body.split_at(digit_run(body));
+        if front.is_empty() || front.len() > MOST_DIGITS {
             return Word::Text { bytes };
         }
+        let digits = Digits { bytes: front };
+        let whole = Whole { negative, digits };
         match rest {
-            [] => Word::Whole { negative, digits },
-            [b'.', fraction @ ..] if digit_run(fraction) == fraction.len() => Word::Decimal {
-                negative,
-                digits,
-                fraction,
+            [] => Word::Whole(whole),
+            [b'.', back @ ..] if digit_run(back) == back.len() => Word::Decimal {
+                whole,
+                fraction: Digits { bytes: back },
             },
             _ => Word::Text { bytes },
         }

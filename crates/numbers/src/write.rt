@@ -1,30 +1,26 @@
 //! Numbers as text at the right of a field.
 
-ghost use Rattle.std.specs.Prelude.{◌≡◌, ◌/◌, ◌^◌, ◌≤◌, ◌++◌, length, drop, replicate, decimal};
-ghost use Rattle.numbers.specs.Texts.{unsigned_text, text_of, right_text, two_digits};
+ghost use Rattle.std.specs.Prelude.{◌≡◌, ◌/◌, ◌^◌, ◌≤◌, length, decimal};
+ghost use Rattle.numbers.specs.Texts.{last_digits, unsigned_text, text_of, right_text, two_digits};
 
 /// The value without its digits after the point.
 fn whole_part(value: u64, places: u8) -> u64
     ensures { result ≡ value / 10 ^ places }
 {
-    let mut whole = value;
-    for _place in 0..places {
-        whole /= 10;
+    match 10u64.checked_pow(u32::from(places)) {
+        Some(power) => value / power,
+        None => 0,
     }
-    whole
 }
 
 /// How many digits the value has.
 fn digit_count(value: u64) -> usize
     ensures { result ≡ length (decimal value) }
 {
-    let mut rest = value;
-    let mut count = 1;
-    while rest >= 10 {
-        rest /= 10;
-        count += 1;
+    match value.checked_ilog10() {
+        Some(log) => log as usize + 1,
+        None => 1,
     }
-    count
 }
 
 /// How long the text of the value is without a sign.
@@ -47,67 +43,56 @@ pub fn decimal_len(value: i64, places: u8) -> usize
     if value < 0 { len + 1 } else { len }
 }
 
+/// Writes the last digits of the value over the field, and answers the number without them.
+fn put_digits(field: &mut [u8], value: u64) -> u64
+    ensures is { field.new ≡ last_digits (length field.old) value }
+    ensures rest { result ≡ value / 10 ^ length field.old }
+{
+    let mut rest = value;
+    // Kept: an index, since a loop over iter_mut().rev() leaves an invariant no name for the bytes that are written.
+    for i in (0..field.len()).rev() {
+        field[i] = b'0' + (rest % 10) as u8;
+        rest /= 10;
+    }
+    rest
+}
+
 /// Writes the last two digits of the value, with a leading zero and without its sign. For callers within this library: a
 /// field of two bytes.
 pub fn put_two_digits(field: &mut [u8], value: i64)
     requires { length field.old ≡ 2 }
     ensures { field.new ≡ two_digits value }
 {
-    let n = value.unsigned_abs();
-    field[0] = b'0' + (n / 10 % 10) as u8;
-    field[1] = b'0' + (n % 10) as u8;
+    put_digits(field, value.unsigned_abs());
 }
 
-/// Writes at the end of the field, and answers where the text begins.
-fn put_unsigned(field: &mut [u8], value: u64, places: u8) -> usize
-    requires { length (unsigned_text value places) ≤ length field.old }
-    ensures is { drop result field.new ≡ unsigned_text value places }
-    ensures inside { result ≤ length field.new }
+/// Writes the text of the value without a sign over a field of its length.
+fn put_unsigned(field: &mut [u8], value: u64, places: u8)
+    requires { length field.old ≡ length (unsigned_text value places) }
+    ensures { field.new ≡ unsigned_text value places }
 {
-    let mut rest = value;
-    let mut start = field.len();
-    let mut left = places;
-    'back: while left > 0 {
-        start -= 1;
-        field[start] = b'0' + (rest % 10) as u8;
-        rest /= 10;
-        left -= 1;
+    if places == 0 {
+        put_digits(field, value);
+        return;
     }
-    if places > 0 {
-        start -= 1;
-        field[start] = b'.';
-    }
-    'front: while rest >= 10 {
-        start -= 1;
-        field[start] = b'0' + (rest % 10) as u8;
-        rest /= 10;
-    }
-    start -= 1;
-    field[start] = b'0' + rest as u8;
-    start
+    let point = field.len() - usize::from(places) - 1;
+    let (whole, back) = field.split_at_mut(point);
+    back[0] = b'.';
+    let rest = put_digits(&mut back[1..], value);
+    put_digits(whole, rest);
 }
 
 /// The same with the sign of a negative value.
-fn put_signed(field: &mut [u8], value: i64, places: u8) -> usize
-    requires { length (text_of value places) ≤ length field.old }
-    ensures is { drop result field.new ≡ text_of value places }
-    ensures inside { result ≤ length field.new }
+fn put_signed(field: &mut [u8], value: i64, places: u8)
+    requires { length field.old ≡ length (text_of value places) }
+    ensures { field.new ≡ text_of value places }
 {
-    let start = put_unsigned(field, value.unsigned_abs(), places);
+    let unsigned = value.unsigned_abs();
     if value < 0 {
-        field[start - 1] = b'-';
-        return start - 1;
-    }
-    start
-}
-
-/// Fills the bytes before `end` with spaces.
-fn pad(field: &mut [u8], end: usize)
-    requires { end ≤ length field.old }
-    ensures { field.new ≡ replicate end 32 ++ drop end field.old }
-{
-    for i in 0..end {
-        field[i] = b' ';
+        field[0] = b'-';
+        put_unsigned(&mut field[1..], unsigned, places);
+    } else {
+        put_unsigned(field, unsigned, places);
     }
 }
 
@@ -117,6 +102,7 @@ pub fn put_decimal(field: &mut [u8], value: i64, places: u8)
     requires { length (text_of value places) ≤ length field.old }
     ensures { field.new ≡ right_text value places (length field.old) }
 {
-    let start = put_signed(field, value, places);
-    pad(field, start);
+    let start = field.len() - decimal_len(value, places);
+    field[..start].fill(b' ');
+    put_signed(&mut field[start..], value, places);
 }

@@ -1,21 +1,13 @@
-use Rattle.std.proofs.Common.{length, sym, subst, arith, rules}
-use Rattle.lines.specs.Lines.{Inside}
-use Rattle.std.proofs.lemmas.Bool.Decides.{nat_tests}
-use Rattle.lines.proofs.LineLaws.{end_more, end_all, ended_inside}
+use Rattle.std.proofs.Common.{sym, ◌∙◌}
+use Rattle.std.proofs.lemmas.Bool.{eq-eqb, ne_eqb}
+use Rattle.lines.proofs.LineLaws.{end_found, end_none}
 use Rattle.lines.proofs.scan.scan.Goals as goal
 
-pub returns-then-b-eq-LINE_END : goal.returns-then-b-eq-LINE_END
-returns-then-b-eq-LINE_END c =
-    record {
-      is = grind (arith, nat_tests, end_more, c.ended.ensures);
-      inside = subst (λ e. Inside e (length c.args.text.now)) (sym c.ended.ensures) (ended_inside _ _ (search rules));
-    }
+pub returns-in-Some-clause-is : goal.returns-in-Some-clause-is
+returns-in-Some-clause-is c = c.ended.ensures ∙ sym (end_found c.args.text.now c.in-Some.n (sym c.in-Some.ensures) ∙ rw (eq-eqb _ _ c.if-text-n-eq-LINE_END.true))
 
-pub returns-then-b-lt32 : goal.returns-then-b-lt32
-returns-then-b-lt32 c = record { is = grind (arith, nat_tests, end_more); inside = tt }
+pub returns-in_default-clause-is : goal.returns-in_default-clause-is
+returns-in_default-clause-is c = sym (end_found c.args.text.now c.in-Some.n (sym c.in-Some.ensures) ∙ rw (ne_eqb _ _ c.if-text-n-eq-LINE_END.false))
 
-pub loop-n-preserved : goal.loop-n-preserved
-loop-n-preserved c = grind (arith, nat_tests, end_more)
-
-pub returns : goal.returns
-returns c = record { is = grind (arith, nat_tests, end_all); inside = tt }
+pub returns-in_default-2-clause-is : goal.returns-in_default-2-clause-is
+returns-in_default-2-clause-is c = sym (end_none c.args.text.now (sym c.in_default.ensures))

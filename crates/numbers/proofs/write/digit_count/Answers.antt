@@ -1,13 +1,9 @@
-use Rattle.std.proofs.Common.{arith}
-use Rattle.numbers.proofs.Lengths as lengths
+use Rattle.std.proofs.Common.{rules, arith}
 use Rattle.numbers.proofs.Puts as puts
 use Rattle.numbers.proofs.write.digit_count.Goals as goal
 
-pub overflow_add-count : goal.overflow_add-count
-overflow_add-count c = omega (arith, lengths.digits_le c.args.value (omega arith))
+pub returns-in-Some : goal.returns-in-Some
+returns-in-Some c = puts.length_is c.in-Some.log c.args.value c.in-Some.ensures.power_le c.in-Some.ensures.next_power_gt (omega arith)
 
-pub loop-rest-preserved : goal.loop-rest-preserved
-loop-rest-preserved c = (omega (arith, puts.length_step c.loop-rest.rest c.loop-rest-test.true (omega arith)), omega arith)
-
-pub returns : goal.returns
-returns c = omega (arith, puts.length_one c.loop-rest.rest (omega arith))
+pub returns-in-None : goal.returns-in-None
+returns-in-None c = omega (arith, puts.length_one c.args.value (search rules))

@@ -3,11 +3,12 @@ use Rattle.std.proofs.ByRecursion.{All-get_or}
 use Rattle.numbers.specs.Shapes.{Digit}
 use Rattle.numbers.specs.Values.{digits_after}
 use Rattle.numbers.proofs.Digits as digits
-use Rattle.numbers.proofs.value.digits_value.Goals as goal
-use Rattle.numbers.proofs.value.digits_value.Goals.{In-loop-digit}
+use Rattle.numbers.proofs.Taken.{run_full}
+use Rattle.numbers.proofs.parts.Digits.value.Goals as goal
+use Rattle.numbers.proofs.parts.Digits.value.Goals.{In-loop-digit}
 
-digit : (c : In-loop-digit) → Digit (get_or c.args.digits.now c.loop-digit.digit-index 0)
-digit c = All-get_or Digit c.args.digits.now c.loop-digit.digit-index 0 c.loop-digit-test.true c.requires.0
+digit : (c : In-loop-digit) → Digit (get_or c.args.self.now.bytes.now c.loop-digit.digit-index 0)
+digit c = All-get_or Digit c.args.self.now.bytes.now c.loop-digit.digit-index 0 c.loop-digit-test.true (run_full c.args.self.now.bytes.now c.args.self.now.all)
 
 -- there is one digit more to come, so that the value has at most eleven
 small : (c : In-loop-digit) → c.loop-digit.value < 10 ^ 11
@@ -26,17 +27,9 @@ pub loop-digit-preserved : goal.loop-digit-preserved
 loop-digit-preserved c =
     let n = c.loop-digit.value in
     let i = c.loop-digit.digit-index in
-    let xs = c.args.digits.now in
+    let xs = c.args.self.now.bytes.now in
     let e : c.from.result ≡ get_or xs i 0 - 48 = search rules in
     let h = digit (goal.at.loop-digit-preserved c).In-loop-digit in (
       ap (λ m. digits_after (n * 10 + m) (drop (i + 1) xs)) e ∙ sym (digits.after_more n xs i c.loop-digit-test.true) ∙ c.loop-digit.invariant.0,
       digits.digit_more n i c.from.result c.loop-digit.invariant.1 (omega arith),
     )
-
-pub returns : goal.returns
-returns c =
-    let end = c.loop-digit-test.false in
-    record {
-      is = sym (digits.after_all c.loop-digit.value c.args.digits.now c.loop-digit.digit-index end) ∙ c.loop-digit.invariant.0;
-      small = digits.below c.loop-digit.value c.loop-digit.digit-index _ c.loop-digit.invariant.1 (omega arith);
-    }
