@@ -4,7 +4,7 @@
 use std::fmt;
 
 /// What is wrong with a line. Words are counted from 1; the command's name is the first.
-#[derive(Clone, Copy, PartialEq, Debug)]
+#[derive(Clone, Copy, PartialEq, Eq, Debug)]
 pub enum CommandError {
     /// The first word names no command.
     UnknownCommand,

@@ -9,7 +9,7 @@ use Rattle.std.proofs.lemmas.Bool.{and_parts, eqb-false, le-leb, not-true}
 use Rattle.std.proofs.lemmas.Bool.Decides.{nat_tests}
 use Rattle.numbers.specs.Shapes.{has_minus, without_sign}
 use Rattle.commands.specs.Numerals.{numeral_of, signed_of}
-use Rattle.commands.specs.declared.command.Moment.{Moment}
+use Rattle.calendar.specs.declared.instant.Timestamp.{Timestamp}
 use Rattle.commands.specs.declared.command.Shifts.{Shifts}
 use Rattle.commands.specs.declared.command.Shifts.TheVariants.{Unshifted, One, Two, Three}
 use Rattle.commands.specs.Kinds.{kind_of}
@@ -65,7 +65,7 @@ line_is ws all c = rw (c, words_spaced ws all)
 rows_word : (n : ℕ) → n ≤ 8192 → OneWord (decimal n)
 rows_word n h = number_word n (omega arith)
 
-moment_words : (m : Moment) → GoodMoment m → (ws : List (List ℕ)) → AllByRecursion OneWord ws → AllByRecursion OneWord (moment_text m ws)
+moment_words : (m : Timestamp) → GoodMoment m → (ws : List (List ℕ)) → AllByRecursion OneWord ws → AllByRecursion OneWord (moment_text m ws)
 moment_words m g ws all = (number_word m.day (omega (arith, g.0)), (number_word m.micros g.1, all))
 
 shifts_words : (s : Shifts) → GoodShifts s → AllByRecursion OneWord (shifts_text s)
@@ -80,7 +80,7 @@ day_back n h = numeral_back (2 ^ 32 - 1) n (omega arith) (omega arith)
 large_back : (n : ℕ) → n < 2 ^ 64 → numeral_of (2 ^ 64 - 1) (decimal n) ≡ Some n
 large_back n h = numeral_back (2 ^ 64 - 1) n (omega arith) h
 
-window_back : (m : Moment) (s : Shifts) → GoodMoment m → GoodShifts s → by_words (words_of (shows_window m s)) ≡ Ok (shows_window m s)
+window_back : (m : Timestamp) (s : Shifts) → GoodMoment m → GoodShifts s → by_words (words_of (shows_window m s)) ≡ Ok (shows_window m s)
 unfolding kind_of
 window_back m Unshifted g k = rw (day_back m.day g.0, large_back m.micros g.1)
 window_back m (One a) g k = rw (day_back m.day g.0, large_back m.micros g.1, shift_back a k)

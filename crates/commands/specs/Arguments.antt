@@ -2,7 +2,7 @@
 use Rattle.std.specs.Prelude.{ℕ, zero, suc, ◌+◌, ◌-◌, ◌^◌, cond, List, [], ℤ, Some, None, Ok, Err, Option, Result, nat_le, slice_index_or}
 use Rattle.command_error.specs.declared.CommandError.{CommandError}
 use Rattle.command_error.specs.declared.CommandError.TheVariants.{NotANumber, TooManyRows}
-use Rattle.commands.specs.declared.command.Moment.{Moment}
+use Rattle.calendar.specs.declared.instant.Timestamp.{Timestamp}
 use Rattle.commands.specs.declared.command.Shifts.{Shifts}
 use Rattle.commands.specs.declared.command.Shifts.TheVariants.{Unshifted, One, Two, Three}
 use Rattle.commands.specs.Numerals.{numeral_of, signed_of}
@@ -32,7 +32,7 @@ abbrev pub rows_at : List (List ℕ) → ℕ → Result ℕ CommandError
 rows_at ws place = and_then (number_at (2 ^ 64 - 1) ws place) (λ n. cond (nat_le n 8192) (Ok n) (Err (TooManyRows place)))
 
 -- a day, and microseconds in the next word
-abbrev pub moment_at : List (List ℕ) → ℕ → Result Moment CommandError
+abbrev pub moment_at : List (List ℕ) → ℕ → Result Timestamp CommandError
 moment_at ws place =
     and_then (number_at (2 ^ 32 - 1) ws place) (λ day. and_then (number_at (2 ^ 64 - 1) ws (place + 1)) (λ micros. Ok (record { day = day; micros = micros })))
 

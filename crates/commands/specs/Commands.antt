@@ -3,7 +3,7 @@ use Rattle.std.specs.Prelude.{ℕ, ◌-◌, Bool, false, cond, List, [], ◌∷�
 use Rattle.lines.specs.Words.{words}
 use Rattle.command_error.specs.declared.CommandError.{CommandError}
 use Rattle.command_error.specs.declared.CommandError.TheVariants.{UnknownCommand, WordCount}
-use Rattle.commands.specs.declared.command.Moment.{Moment}
+use Rattle.calendar.specs.declared.instant.Timestamp.{Timestamp}
 use Rattle.commands.specs.declared.command.Shifts.{Shifts}
 use Rattle.commands.specs.declared.kind.Kind.{Kind}
 use Rattle.commands.specs.declared.kind.Kind.TheVariants.{Sheet, Open, Paste, Cut, Undo, Cells, Journal, Show, Close, Row, Entry, Window, Lines, Write}
@@ -15,7 +15,7 @@ pub data Asked : Type 0 where
   new_sheet : (rows taken : ℕ) → Asked
   opens : List ℕ → Asked
   pastes : List ℕ → Asked
-  cuts : Moment → Moment → Asked
+  cuts : Timestamp → Timestamp → Asked
   undoes : Asked
   shows_cells : Asked
   shows_journal : Asked
@@ -23,8 +23,8 @@ pub data Asked : Type 0 where
   closes : Asked
   shows_row : ℕ → Asked
   shows_entry : ℕ → Asked
-  shows_window : Moment → Shifts → Asked
-  shows_lines : List ℕ → Moment → Asked
+  shows_window : Timestamp → Shifts → Asked
+  shows_lines : List ℕ → Timestamp → Asked
   writes : List ℕ → Asked
   nothing : Asked
 

@@ -3,13 +3,13 @@ use Rattle.std.specs.Prelude.{◌≡◌, ℕ, ◌^◌, ◌<◌, ◌≤◌, List,
 use Rattle.std.specs.Int.Signed.{mag}
 use Rattle.std.specs.Fmt.{signed_decimal}
 use Rattle.std.specs.List.{AllByRecursion}
-use Rattle.commands.specs.declared.command.Moment.{Moment}
+use Rattle.calendar.specs.declared.instant.Timestamp.{Timestamp}
 use Rattle.commands.specs.declared.command.Shifts.{Shifts}
 use Rattle.commands.specs.declared.command.Shifts.TheVariants.{Unshifted, One, Two, Three}
 use Rattle.commands.specs.Commands.{Asked, new_sheet, opens, pastes, cuts, undoes, shows_cells, shows_journal, shows, closes, shows_row, shows_entry, shows_window, shows_lines, writes, nothing, command_of}
 
 -- a day and its microseconds, before other words
-abbrev pub moment_text : Moment → List (List ℕ) → List (List ℕ)
+abbrev pub moment_text : Timestamp → List (List ℕ) → List (List ℕ)
 moment_text m ws = decimal m.day ∷ (decimal m.micros ∷ ws)
 
 abbrev pub shifts_text : Shifts → List (List ℕ)
@@ -45,7 +45,7 @@ spaced (w ∷ (v ∷ ws)) = w ++ (32 ∷ spaced (v ∷ ws))
 abbrev pub OneWord : List ℕ → Type 0
 OneWord w = (1 ≤ length w) × AllByRecursion (λ b. b ≢ 32) w
 
-abbrev pub GoodMoment : Moment → Type 0
+abbrev pub GoodMoment : Timestamp → Type 0
 GoodMoment m = (m.day < 2 ^ 32) × (m.micros < 2 ^ 64)
 
 -- from -2^63 to 2^63 - 1

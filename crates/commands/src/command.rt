@@ -1,13 +1,9 @@
 //! What a line of a script can ask for.
 
-/// A day, and microseconds of the day, as they are written: they need not lie in the calendar.
-#[derive(Clone, Copy)]
-pub struct Moment {
-    pub day: u32,
-    pub micros: u64,
-}
+use calendar::instant::Timestamp;
 
 /// The shifts of stacked tables in microseconds, the lowest table's first.
+// Kept: a case for each count, since there is no heap and an array of three would hold shifts that do not count.
 #[derive(Clone, Copy)]
 pub enum Shifts {
     Unshifted,
@@ -23,7 +19,7 @@ pub enum Command<'l> {
     Sheet { rows: usize, taken: usize },
     Open { path: &'l [u8] },
     Paste { path: &'l [u8] },
-    Cut { from: Moment, to: Moment },
+    Cut { from: Timestamp, to: Timestamp },
     Undo,
     Cells,
     Journal,
@@ -31,9 +27,9 @@ pub enum Command<'l> {
     Close,
     Row { number: usize },
     Entry { number: usize },
-    Window { at: Moment, shifts: Shifts },
+    Window { at: Timestamp, shifts: Shifts },
     /// The lines of the window over a file's text.
-    Lines { path: &'l [u8], at: Moment },
+    Lines { path: &'l [u8], at: Timestamp },
     Write { path: &'l [u8] },
     /// An empty line, or a comment.
     Nothing,

@@ -1,6 +1,7 @@
 //! The kinds of commands: how each is named, and how many words it takes.
-ghost use Rattle.std.specs.Prelude.{◌≡◌};
+ghost use Rattle.std.specs.Prelude.{◌≡◌, ok_or};
 ghost use Rattle.std.specs.Str.{bytes_eq};
+ghost use Rattle.command_error.specs.declared.CommandError.TheVariants.{UnknownCommand};
 ghost use Rattle.commands.specs.Kinds.{form, form_of, kind_of, named, takes};
 ghost use Rattle.commands.specs.Forms.{plain_form};
 
@@ -49,12 +50,6 @@ const KINDS: [Kind; 14] = [
     Kind::Write,
 ];
 
-fn same(a: &[u8], b: &[u8]) -> bool
-    ensures { result ≡ bytes_eq a.now b.now }
-{
-    a == b
-}
-
 impl Form {
     fn new(name: &'static [u8], fewest: usize, most: usize) -> Form
         ensures { plain_form result ≡ form name.now fewest most }
@@ -90,11 +85,11 @@ impl Kind {
         ensures { result ≡ takes (form_of self) words }
     {
         let form = self.form();
-        form.fewest <= words && words <= form.most
+        (form.fewest..=form.most).contains(&words)
     }
 
     /// The error that another number of words follows the name.
-    pub(crate) fn word_count(self) -> CommandError
+    pub(crate) fn word_count_error(self) -> CommandError
         ensures { result ≡ CommandError.WordCount (form_of self).fewest (form_of self).most }
     {
         let form = self.form();
@@ -104,11 +99,21 @@ impl Kind {
         }
     }
 
-    /// The kind that goes by this name.
-    pub(crate) fn of(name: &[u8]) -> Option<Kind>
-        ensures { result ≡ kind_of name.now }
+    fn is_named(self, name: &[u8]) -> bool
+        ensures { result ≡ bytes_eq (form_of self).name name.now }
     {
-        find(&KINDS, name)
+        self.form().name == name
+    }
+}
+
+/// The kind that goes by this name.
+impl TryFrom<&[u8]> for Kind {
+    type Error = CommandError;
+
+    ghost try_from_gives = { λ name r. r ≡ ok_or (kind_of name.now) UnknownCommand };
+
+    fn try_from(name: &[u8]) -> Result<Kind, CommandError> {
+        find(&KINDS, name).ok_or(CommandError::UnknownCommand)
     }
 }
 
@@ -116,10 +121,5 @@ impl Kind {
 fn find(kinds: &[Kind], name: &[u8]) -> Option<Kind>
     ensures { result ≡ named name.now kinds.now }
 {
-    for kind in kinds {
-        if same(kind.form().name, name) {
-            return Some(*kind);
-        }
-    }
-    None
+    kinds.iter().copied().find(|kind| kind.is_named(name))
 }

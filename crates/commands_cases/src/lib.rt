@@ -5,31 +5,27 @@ use command_error::CommandError;
 use commands::command::Command;
 use std::alloc::{AllocError, Global};
 
-/// What is wrong with a line, as three numbers; zeros where nothing is.
-pub fn outcome(line: &[u8]) -> (u8, usize, usize) {
-    match Command::of(line) {
-        Ok(_) => (0, 0, 0),
-        Err(CommandError::UnknownCommand) => (1, 0, 0),
-        Err(CommandError::WordCount { fewest, most }) => (2, fewest, most),
-        Err(CommandError::NotANumber { word }) => (3, word, 0),
-        Err(CommandError::TooManyRows { word }) => (4, word, 0),
-    }
+/// What is wrong with a line, if anything is.
+pub fn outcome(line: &[u8]) -> Result<(), CommandError> {
+    Command::try_from(line).map(|_command| ())
 }
 
 /// The path of the line's command, if it has one.
-pub fn path_of<'l>(line: &'l [u8]) -> &'l [u8] {
-    match Command::of(line) {
-        Ok(Command::Open { path }) => path,
-        Ok(Command::Paste { path }) => path,
-        Ok(Command::Lines { path, .. }) => path,
-        Ok(Command::Write { path }) => path,
-        _ => &line[line.len()..],
+pub fn path_of<'l>(line: &'l [u8]) -> Option<&'l [u8]> {
+    match Command::try_from(line) {
+        Ok(
+            Command::Open { path }
+            | Command::Paste { path }
+            | Command::Lines { path, .. }
+            | Command::Write { path },
+        ) => Some(path),
+        _ => None,
     }
 }
 
 /// What is wrong with a line, as a sentence; no text where nothing is.
 pub fn sentence(heap: Global, line: &[u8]) -> Result<String, AllocError> {
-    match Command::of(line) {
+    match Command::try_from(line) {
         Ok(_) => format!(in heap; ""),
         Err(error) => format!(in heap; "{error}"),
     }
@@ -38,100 +34,101 @@ pub fn sentence(heap: Global, line: &[u8]) -> Result<String, AllocError> {
 #[cfg(test)]
 mod tests {
     use super::*;
-    use commands::command::{Moment, Shifts};
+    use calendar::instant::Timestamp;
+    use commands::command::Shifts;
     use std::process::Abort;
     use std::test::Fail;
 
     #[derive(Clone, Copy)]
     struct Case {
         line: &'static str,
-        outcome: (u8, usize, usize),
+        outcome: Result<(), CommandError>,
     }
 
     const CASES: [Case; 21] = [
         Case {
             line: "undo",
-            outcome: (0, 0, 0),
+            outcome: Ok(()),
         },
         Case {
             line: "row 007",
-            outcome: (0, 0, 0),
+            outcome: Ok(()),
         },
         Case {
             line: "window 1 2",
-            outcome: (0, 0, 0),
+            outcome: Ok(()),
         },
         Case {
             line: "window 1 2 +3 -0",
-            outcome: (0, 0, 0),
+            outcome: Ok(()),
         },
         Case {
             line: "",
-            outcome: (0, 0, 0),
+            outcome: Ok(()),
         },
         Case {
             line: "   ",
-            outcome: (0, 0, 0),
+            outcome: Ok(()),
         },
         Case {
             line: "# open a",
-            outcome: (0, 0, 0),
+            outcome: Ok(()),
         },
         Case {
             line: "#",
-            outcome: (0, 0, 0),
+            outcome: Ok(()),
         },
         Case {
             line: " # open a",
-            outcome: (1, 0, 0),
+            outcome: Err(CommandError::UnknownCommand),
         },
         Case {
             line: "Open a",
-            outcome: (1, 0, 0),
+            outcome: Err(CommandError::UnknownCommand),
         },
         Case {
             line: "undo\r",
-            outcome: (1, 0, 0),
+            outcome: Err(CommandError::UnknownCommand),
         },
         Case {
             line: "open",
-            outcome: (2, 1, 1),
+            outcome: Err(CommandError::WordCount { fewest: 1, most: 1 }),
         },
         Case {
             line: "window 1 2 3 4 5 6",
-            outcome: (2, 2, 5),
+            outcome: Err(CommandError::WordCount { fewest: 2, most: 5 }),
         },
         Case {
             line: "sheet 8193 x",
-            outcome: (4, 2, 0),
+            outcome: Err(CommandError::TooManyRows { word: 2 }),
         },
         Case {
             line: "sheet 1 18446744073709551616",
-            outcome: (3, 3, 0),
+            outcome: Err(CommandError::NotANumber { word: 3 }),
         },
         Case {
             line: "cut 4294967296 0 0 0",
-            outcome: (3, 2, 0),
+            outcome: Err(CommandError::NotANumber { word: 2 }),
         },
         Case {
             line: "entry +1",
-            outcome: (3, 2, 0),
+            outcome: Err(CommandError::NotANumber { word: 2 }),
         },
         Case {
             line: "row 1.0",
-            outcome: (3, 2, 0),
+            outcome: Err(CommandError::NotANumber { word: 2 }),
         },
         Case {
             line: "window 1 2 5 9223372036854775808",
-            outcome: (3, 5, 0),
+            outcome: Err(CommandError::NotANumber { word: 5 }),
         },
         Case {
             line: "window 1 2 -9223372036854775809",
-            outcome: (3, 4, 0),
+            outcome: Err(CommandError::NotANumber { word: 4 }),
         },
         Case {
             line: "window 1 2 --1",
-            outcome: (3, 4, 0),
+            outcome: Err(CommandError::NotANumber { word: 4 }),
         },
     ];
 
@@ -144,16 +141,16 @@ mod tests {
 
     #[test]
     fn paths(rt: HostRuntime) {
-        assert!(rt; path_of(b"  open  a.cpf ") == b"a.cpf".as_slice());
-        assert!(rt; path_of(b"paste \xff\r") == b"\xff\r".as_slice());
-        assert!(rt; path_of(b"lines b 1 2") == b"b".as_slice());
+        assert!(rt; path_of(b"  open  a.cpf ") == Some(b"a.cpf".as_slice()));
+        assert!(rt; path_of(b"paste \xff\r") == Some(b"\xff\r".as_slice()));
+        assert!(rt; path_of(b"lines b 1 2") == Some(b"b".as_slice()));
     }
 
     #[test]
     fn numbers(rt: HostRuntime) {
         assert!(rt;
             matches!(
-                Command::of(b"sheet 8192 0"),
+                Command::try_from(b"sheet 8192 0".as_slice()),
                 Ok(Command::Sheet {
                     rows: 8192,
                     taken: 0
@@ -162,13 +159,13 @@ mod tests {
         );
         assert!(rt;
             matches!(
-                Command::of(b"cut 59366 1 4294967295 18446744073709551615"),
+                Command::try_from(b"cut 59366 1 4294967295 18446744073709551615".as_slice()),
                 Ok(Command::Cut {
-                    from: Moment {
+                    from: Timestamp {
                         day: 59366,
                         micros: 1
                     },
-                    to: Moment {
+                    to: Timestamp {
                         day: 4294967295,
                         micros: 18446744073709551615
                     },
@@ -177,7 +174,9 @@ mod tests {
         );
         assert!(rt;
             matches!(
-                Command::of(b"window 1 2 -9223372036854775808 9223372036854775807 +5"),
+                Command::try_from(
+                    b"window 1 2 -9223372036854775808 9223372036854775807 +5".as_slice()
+                ),
                 Ok(Command::Window {
                     shifts: Shifts::Three(i64::MIN, i64::MAX, 5),
                     ..
