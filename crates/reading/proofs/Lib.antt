@@ -1,4 +1,4 @@
-pub mod RowChecks
+pub mod PartLaws
 pub mod StepLaws
 pub mod StoreLaws
 pub mod TextLaws

@@ -29,9 +29,6 @@ use Rattle.reading.specs.Ends.{end_refusal}
 use Rattle.reading.specs.Texts.{scan_end_by, on_scan, scan_lines, scan_from, scan_of}
 use Rattle.reading.specs.Stores.{completed, with_part, position_part, velocity_part, part_by_record, part_by_type, part_of, rows_with, rows_on, rows_in}
 
-never : {P : Type 0} → ◌≡◌ {A = ℕ} 0 1 → P
-never z = absurd (omega arith)
-
 -- a velocity changes nothing that a summary tells
 on_completed : (s : Summary) (rs : List Row) (v : Vector) → extended_by s (completed rs v) ≡ extended_by s rs
 on_completed s [] v = refl
@@ -44,21 +41,21 @@ summary_completed (r ∷ []) v = refl
 summary_completed (r ∷ (x ∷ rs)) v = ap (λ m. Some m) (on_completed (cells.started r) (x ∷ rs) v)
 
 -- what an accepted line does to the rows and to their summary
-pub data Step (n : ℕ) (p : RowPart) (s u : Scan) : Type 0 where
+pub data Step (n : ℕ) (p : Option RowPart) (s u : Scan) : Type 0 where
   same : u.summary ≡ s.summary → u.room ≡ s.room → ((rows : List Row) → summary_if (with_part rows p) ≡ summary_if rows) → Step n p s u
-  added : (r : Row) → p ≡ parts.Position r → row_refusal n s r ≡ Ok tt → u.summary ≡ Some (summary_with s.summary r) → u.room ≡ s.room → Step n p s u
+  added : (r : Row) → p ≡ Some (parts.Position r) → row_refusal n s r ≡ Ok tt → u.summary ≡ Some (summary_with s.summary r) → u.room ≡ s.room → Step n p s u
 
 -- the same scan but for its header
-kept : (n : ℕ) (p : RowPart) (s v u : Scan) → v.summary ≡ s.summary → v.room ≡ s.room → ((rows : List Row) → summary_if (with_part rows p) ≡ summary_if rows)
+kept : (n : ℕ) (p : Option RowPart) (s v u : Scan) → v.summary ≡ s.summary → v.room ≡ s.room → ((rows : List Row) → summary_if (with_part rows p) ≡ summary_if rows)
     → ◌≡◌ {A = Result Scan Refusal} (Ok v) (Ok u) → Step n p s u
 kept n p s v u e f g q = let w : v ≡ u = cc in same (ap (λ x. x.summary) (sym w) ∙ e) (ap (λ x. x.room) (sym w) ∙ f) g
 
-quiet : (rows : List Row) → summary_if (with_part rows parts.Nothing) ≡ summary_if rows
+quiet : (rows : List Row) → summary_if (with_part rows None) ≡ summary_if rows
 quiet rows = refl
 
-row_step : (n : ℕ) (p : RowPart) (s u : Scan) (r : Row) (a : Result (Unit {0}) Refusal) → a ≡ row_refusal n s r → p ≡ parts.Position r → on_ok a (with_row s r) ≡ Ok u → Step n p s u
+row_step : (n : ℕ) (p : Option RowPart) (s u : Scan) (r : Row) (a : Result (Unit {0}) Refusal) → a ≡ row_refusal n s r → p ≡ Some (parts.Position r) → on_ok a (with_row s r) ≡ Ok u → Step n p s u
 row_step n p s u r (Ok x) e f q = let w : with_row s r ≡ u = cc in added r f (sym e) (ap (λ x. x.summary) (sym w)) (ap (λ x. x.room) (sym w))
-row_step n p s u r (Err x) e f q = never (cc)
+row_step n p s u r (Err x) e f q = cc
 
 taken_step : (n : ℕ) (rest : List ℕ) (s u : Scan) (t : Record) (vs : List Value) → Ok vs ≡ read_record n t rest → taken n s t vs ≡ Ok u → Step n (part_by_record n rest t) s u
 taken_step n rest s u rec.H1 vs e q = kept n _ s _ u refl refl quiet q
@@ -74,40 +71,40 @@ taken_step n rest s u rec.Trailer vs e q = kept n _ s s u refl refl quiet q
 
 if_step : (n : ℕ) (rest : List ℕ) (s u : Scan) (t : Record) (r : Result (List Value) Refusal) → r ≡ read_record n t rest → taken_if n s t r ≡ Ok u → Step n (part_by_record n rest t) s u
 if_step n rest s u t (Ok vs) e q = taken_step n rest s u t vs e q
-if_step n rest s u t (Err x) e q = never (cc)
+if_step n rest s u t (Err x) e q = cc
 
-comment_part : (n : ℕ) (rest : List ℕ) (t : Record) → is_comment t ≡ true → part_by_record n rest t ≡ parts.Nothing
-comment_part n rest rec.H1 e = never (cc)
-comment_part n rest rec.H2 e = never (cc)
-comment_part n rest rec.H3 e = never (cc)
-comment_part n rest rec.H5 e = never (cc)
-comment_part n rest rec.H9 e = never (cc)
-comment_part n rest rec.Position e = never (cc)
-comment_part n rest rec.Velocity e = never (cc)
+comment_part : (n : ℕ) (rest : List ℕ) (t : Record) → is_comment t ≡ true → part_by_record n rest t ≡ None
+comment_part n rest rec.H1 e = cc
+comment_part n rest rec.H2 e = cc
+comment_part n rest rec.H3 e = cc
+comment_part n rest rec.H5 e = cc
+comment_part n rest rec.H9 e = cc
+comment_part n rest rec.Position e = cc
+comment_part n rest rec.Velocity e = cc
 comment_part n rest rec.Comment e = refl
-comment_part n rest rec.Trailer e = never (cc)
+comment_part n rest rec.Trailer e = cc
 
 content_step_lem : (n : ℕ) (rest : List ℕ) (s u : Scan) (t : Record) (b : Bool) → b ≡ is_comment t → cond b (Ok s) (taken_if n s t (read_record n t rest)) ≡ Ok u → Step n (part_by_record n rest t) s u
 content_step_lem n rest s u t true e q = kept n _ s s u refl refl (λ rows. ap (λ p. summary_if (with_part rows p)) (comment_part n rest t (sym e))) q
 content_step_lem n rest s u t false e q = if_step n rest s u t (read_record n t rest) refl q
 
-moved_step : (n : ℕ) (p : RowPart) (s v : Scan) (st : Stage) → Step n p s v → Step n p s (with_stage st v)
+moved_step : (n : ℕ) (p : Option RowPart) (s v : Scan) (st : Stage) → Step n p s v → Step n p s (with_stage st v)
 moved_step n p s v st (same e f g) = same e f g
 moved_step n p s v st (added r e f g h) = added r e f g h
 
-at_step : (n : ℕ) (p : RowPart) (s u : Scan) (st : Stage) (r : Result Scan Refusal) → ((v : Scan) → r ≡ Ok v → Step n p s v) → at_stage st r ≡ Ok u → Step n p s u
-at_step n p s u st (Err x) h q = never (cc)
+at_step : (n : ℕ) (p : Option RowPart) (s u : Scan) (st : Stage) (r : Result Scan Refusal) → ((v : Scan) → r ≡ Ok v → Step n p s v) → at_stage st r ≡ Ok u → Step n p s u
+at_step n p s u st (Err x) h q = cc
 at_step n p s u st (Ok v) h q = let w : with_stage st v ≡ u = cc in elim (moved_step n p s v st (h v refl)) [
   | same e f g ↦ same (ap (λ x. x.summary) (sym w) ∙ e) (ap (λ x. x.room) (sym w) ∙ f) g
   | added r e f g k ↦ added r e f (ap (λ x. x.summary) (sym w) ∙ g) (ap (λ x. x.room) (sym w) ∙ k)
 ]
 
 place_step : (n : ℕ) (text : List ℕ) (s u : Scan) (t : Record) (o : Option Stage) → by_stage n text s t o ≡ Ok u → Step n (part_by_record n (drop 2 text) t) s u
-place_step n text s u t None q = never (cc)
+place_step n text s u t None q = cc
 place_step n text s u t (Some st) q = at_step n _ s u st (content_step n s t (drop 2 text)) (λ v e. content_step_lem n (drop 2 text) s v t (is_comment t) refl e) q
 
 record_step : (n : ℕ) (text : List ℕ) (s u : Scan) (o : Option Record) → by_record n text s o ≡ Ok u → Step n (part_by_type n text o) s u
-record_step n text s u None q = never (cc)
+record_step n text s u None q = cc
 record_step n text s u (Some t) q = place_step n text s u t (next_stage s.part s.stage t) q
 
 pub line_step_lem : (n : ℕ) (text : List ℕ) (s u : Scan) → line_step n text s ≡ Ok u → Step n (part_of n text) s u
@@ -120,7 +117,7 @@ pub record Tracks (s : Scan) (rows : List Row) (given : Option ℕ) : Type 0 whe
   pub fits : (room : ℕ) → given ≡ Some room → length rows ≤ room
 
 unit_ok : (a : Result (Unit {0}) Refusal) (b : Bool) (e : Refusal) → cond b (Err e) a ≡ Ok tt → b ≡ false
-unit_ok a true e q = never (cc)
+unit_ok a true e q = cc
 unit_ok a false e q = refl
 
 after_ok : (n : ℕ) (s : Scan) (r : Row) (m : Option Summary) → row_refusal_after n s r m ≡ Ok tt → room_refusal n s ≡ Ok tt
@@ -134,7 +131,7 @@ after_ok n s r (Some before) q =
   where
     allowed : (c : Bool) → cond c (room_refusal n s) (Err (FlagChanges n)) ≡ Ok tt → room_refusal n s ≡ Ok tt
     allowed true h = h
-    allowed false h = never (cc)
+    allowed false h = cc
 
 not_full : (room k : ℕ) → is_full_at (Some room) k ≡ false → k < room
 not_full room k e = leb-false room k e
@@ -147,7 +144,7 @@ fits_more n s rows r given t q room e =
     let l = length-append rows (r ∷ []) in
     omega arith
 
-tracks_part : (n : ℕ) (p : RowPart) (s u : Scan) (rows : List Row) (given : Option ℕ) → Tracks s rows given → Step n p s u → ((k : ℕ) → length rows ≤ k → summary_if (with_part rows p) ≡ summary_if rows → length (with_part rows p) ≤ k) → Tracks u (with_part rows p) given
+tracks_part : (n : ℕ) (p : Option RowPart) (s u : Scan) (rows : List Row) (given : Option ℕ) → Tracks s rows given → Step n p s u → ((k : ℕ) → length rows ≤ k → summary_if (with_part rows p) ≡ summary_if rows → length (with_part rows p) ≤ k) → Tracks u (with_part rows p) given
 tracks_part n p s u rows given t (same e f g) h =
     record { summary = e ∙ t.summary ∙ sym (g rows); room = f ∙ t.room; fits = λ room q. h room (t.fits room q) (g rows) }
 tracks_part n p s u rows given t (added r e f g k) h =
@@ -165,16 +162,16 @@ pub tracks_line : (n : ℕ) (text : List ℕ) (s u : Scan) (rows : List Row) (gi
 tracks_line n text s u rows given t q = tracks_part n (part_of n text) s u rows given t (line_step_lem n text s u q) (λ k h e. same_length rows (with_part rows (part_of n text)) k h e)
 
 tracks_end : (s u : Scan) (n : ℕ) (o : Option Refusal) (rows : List Row) (given : Option ℕ) → Tracks s rows given → scan_end_by s n o ≡ Ok u → Tracks u rows given
-tracks_end s u n (Some e) rows given t q = never (cc)
+tracks_end s u n (Some e) rows given t q = cc
 tracks_end s u n None rows given t q = by_end (end_refusal s n) q
   where
     by_end : (a : Result (Unit {0}) Refusal) → on_ok a s ≡ Ok u → Tracks u rows given
-    by_end (Err e) p = never (cc)
+    by_end (Err e) p = cc
     by_end (Ok x) p = let w : s ≡ u = cc in subst (λ v. Tracks v rows given) w t
 
 tracks_on : (n : ℕ) (l : List ℕ) (ls : List (List ℕ)) (e : Ending) (rows : List Row) (given : Option ℕ) (u : Scan) (r : Result Scan Refusal) → ((v : Scan) → r ≡ Ok v → scan_lines (n + 1) ls e v ≡ Ok u → Tracks u (rows_on n (l ∷ ls) rows) given) → on_scan r (λ t. scan_lines (n + 1) ls e t) ≡ Ok u → Tracks u (rows_on n (l ∷ ls) rows) given
 tracks_on n l ls e rows given u (Ok v) h q = h v refl q
-tracks_on n l ls e rows given u (Err x) h q = never (cc)
+tracks_on n l ls e rows given u (Err x) h q = cc
 
 pub tracks_lines : (n : ℕ) (ls : List (List ℕ)) (e : Ending) (s u : Scan) (rows : List Row) (given : Option ℕ) → Tracks s rows given → scan_lines n ls e s ≡ Ok u → Tracks u (rows_on n ls rows) given
 tracks_lines n [] e s u rows given t q = tracks_end s u n (ending_refusal (n + 1) e) rows given t q
@@ -188,5 +185,5 @@ tracks_text p room bs u q = long (ltb 2097152 (length bs)) q
     begun = record { summary = refl; room = refl; fits = λ k e. omega arith }
 
     long : (b : Bool) → cond b (Err (TooLong 0)) (scan_from 0 (text_of bs) (started p room)) ≡ Ok u → Tracks u (rows_in bs) room
-    long true h = never (cc)
+    long true h = cc
     long false h = tracks_lines 0 (text_of bs).lines (text_of bs).ending (started p room) u [] room begun h

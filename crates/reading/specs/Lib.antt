@@ -4,3 +4,4 @@ pub mod Scans
 pub mod Ends
 pub mod Texts
 pub mod Stores
+pub mod Contents

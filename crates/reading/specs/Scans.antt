@@ -18,7 +18,8 @@ use Rattle.reading.specs.declared.stage.Stage.{Stage}
 use Rattle.reading.specs.declared.stage.Stage.TheVariants as at
 use Rattle.reading.specs.declared.stage.Part.{Part}
 use Rattle.reading.specs.declared.stage.Part.TheVariants as part
-use Rattle.reading.specs.Builds.{origin_of, satellite_of, span_of, accuracy_of, offset_of, row_of}
+use Rattle.records.specs.Builds.{origin_of, satellite_of, accuracy_of, offset_of}
+use Rattle.reading.specs.Builds.{span_of, row_of}
 use Rattle.reading.specs.Order.{next_stage}
 
 -- before the first line: a file begins with H1, a block with its rows

@@ -11,7 +11,8 @@ use Rattle.records.specs.Types.{record_of}
 use Rattle.records.specs.Reads.{read_record}
 use Rattle.reading.specs.declared.part.RowPart.{RowPart}
 use Rattle.reading.specs.declared.part.RowPart.TheVariants as parts
-use Rattle.reading.specs.Builds.{row_of, velocity_of}
+use Rattle.records.specs.Builds.{velocity_of}
+use Rattle.reading.specs.Builds.{row_of}
 
 abbrev pub with_velocity : Row → Vector → Row
 with_velocity r v = record { at = r.at; flag = r.flag; position = r.position; velocity = Some v }
@@ -23,36 +24,36 @@ completed (r ∷ []) v = with_velocity r v ∷ []
 completed (r ∷ (s ∷ rs)) v = r ∷ completed (s ∷ rs) v
 
 -- the rows with one part more
-abbrev pub with_part : List Row → RowPart → List Row
-with_part rows (parts.Position r) = rows ++ (r ∷ [])
-with_part rows (parts.Velocity v) = completed rows v
-with_part rows parts.Nothing = rows
+abbrev pub with_part : List Row → Option RowPart → List Row
+with_part rows (Some (parts.Position r)) = rows ++ (r ∷ [])
+with_part rows (Some (parts.Velocity v)) = completed rows v
+with_part rows None = rows
 
-abbrev pub position_part : Result (List Value) Refusal → RowPart
-position_part (Ok vs) = parts.Position (row_of vs)
-position_part (Err e) = parts.Nothing
+abbrev pub position_part : Result (List Value) Refusal → Option RowPart
+position_part (Ok vs) = Some (parts.Position (row_of vs))
+position_part (Err e) = None
 
-abbrev pub velocity_part : Result (List Value) Refusal → RowPart
-velocity_part (Ok vs) = parts.Velocity (velocity_of vs)
-velocity_part (Err e) = parts.Nothing
+abbrev pub velocity_part : Result (List Value) Refusal → Option RowPart
+velocity_part (Ok vs) = Some (parts.Velocity (velocity_of vs))
+velocity_part (Err e) = None
 
-abbrev pub part_by_record : ℕ → List ℕ → Record → RowPart
-part_by_record line rest rec.H1 = parts.Nothing
-part_by_record line rest rec.H2 = parts.Nothing
-part_by_record line rest rec.H3 = parts.Nothing
-part_by_record line rest rec.H5 = parts.Nothing
-part_by_record line rest rec.H9 = parts.Nothing
+abbrev pub part_by_record : ℕ → List ℕ → Record → Option RowPart
+part_by_record line rest rec.H1 = None
+part_by_record line rest rec.H2 = None
+part_by_record line rest rec.H3 = None
+part_by_record line rest rec.H5 = None
+part_by_record line rest rec.H9 = None
 part_by_record line rest rec.Position = position_part (read_record line rec.Position rest)
 part_by_record line rest rec.Velocity = velocity_part (read_record line rec.Velocity rest)
-part_by_record line rest rec.Comment = parts.Nothing
-part_by_record line rest rec.Trailer = parts.Nothing
+part_by_record line rest rec.Comment = None
+part_by_record line rest rec.Trailer = None
 
-abbrev pub part_by_type : ℕ → List ℕ → Option Record → RowPart
-part_by_type line text None = parts.Nothing
+abbrev pub part_by_type : ℕ → List ℕ → Option Record → Option RowPart
+part_by_type line text None = None
 part_by_type line text (Some t) = part_by_record line (drop 2 text) t
 
 -- what a line says of the rows
-abbrev pub part_of : ℕ → List ℕ → RowPart
+abbrev pub part_of : ℕ → List ℕ → Option RowPart
 part_of line text = part_by_type line text (record_of text)
 
 -- the rows with one line more: a position adds a row, a velocity completes the last one

@@ -2,6 +2,7 @@
 #![tactic(auto)]
 
 pub mod build;
+pub mod content;
 pub mod part;
 pub mod scan;
 pub mod stage;

@@ -11,6 +11,7 @@ pub mod steps;
 pub struct Scan {
     pub part: Part,
     /// The most rows that are taken; None: any number.
+    // Kept: not a part of `Part::File`, since `scan_text` takes any part with any room.
     pub room: Option<usize>,
     pub stage: Stage,
     pub header: Header,

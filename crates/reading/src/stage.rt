@@ -5,7 +5,7 @@ ghost use Rattle.reading.specs.Order.{next_stage, rows_done};
 use records::record::Record;
 
 /// What the reader has come to.
-#[derive(Clone, Copy, PartialEq, Debug)]
+#[derive(Clone, Copy, PartialEq, Eq, Debug)]
 pub enum Stage {
     /// Nothing was read.
     Start,
@@ -32,7 +32,8 @@ pub enum Stage {
 }
 
 /// What is read: a file from H1 to 99, or a block of rows.
-#[derive(Clone, Copy, PartialEq, Debug)]
+// Kept: an enum and three matches on it; closures for start, trailer and end would go through every call.
+#[derive(Clone, Copy, PartialEq, Eq, Debug)]
 pub enum Part {
     File,
     Block,
@@ -43,51 +44,22 @@ impl Stage {
     pub(crate) fn next(self, part: Part, kind: Record) -> Option<Stage>
         ensures { result ≡ next_stage part self kind }
     {
-        match kind {
-            Record::H1 => match self {
-                Stage::Start => Some(Stage::H1),
-                _ => None,
-            },
-            Record::H2 => match self {
-                Stage::H1 => Some(Stage::H2),
-                _ => None,
-            },
-            Record::H3 => match self {
-                Stage::H2 => Some(Stage::H3),
-                _ => None,
-            },
-            Record::H5 => match self {
-                Stage::H2 | Stage::H3 => Some(Stage::H5),
-                _ => None,
-            },
-            Record::H9 => match self {
-                Stage::H2 | Stage::H3 | Stage::H5 => Some(Stage::H9),
-                _ => None,
-            },
-            Record::Position => match self {
-                Stage::H9 => Some(Stage::FirstPosition),
-                Stage::FirstPosition | Stage::Position => Some(Stage::Position),
-                Stage::Velocity => Some(Stage::AwaitsVelocity),
-                _ => None,
-            },
-            Record::Velocity => match self {
-                Stage::FirstPosition | Stage::AwaitsVelocity => Some(Stage::Velocity),
-                _ => None,
-            },
-            Record::Comment => match self {
-                Stage::Start | Stage::End => None,
-                _ => Some(self),
-            },
-            Record::Trailer => match part {
-                Part::File => {
-                    if self.rows_done() {
-                        Some(Stage::End)
-                    } else {
-                        None
-                    }
-                }
-                Part::Block => None,
-            },
+        match (kind, self) {
+            (Record::H1, Stage::Start) => Some(Stage::H1),
+            (Record::H2, Stage::H1) => Some(Stage::H2),
+            (Record::H3, Stage::H2) => Some(Stage::H3),
+            (Record::H5, Stage::H2 | Stage::H3) => Some(Stage::H5),
+            (Record::H9, Stage::H2 | Stage::H3 | Stage::H5) => Some(Stage::H9),
+            (Record::Position, Stage::H9) => Some(Stage::FirstPosition),
+            (Record::Position, Stage::FirstPosition | Stage::Position) => Some(Stage::Position),
+            (Record::Position, Stage::Velocity) => Some(Stage::AwaitsVelocity),
+            (Record::Velocity, Stage::FirstPosition | Stage::AwaitsVelocity) => Some(
+                Stage::Velocity,
+            ),
+            (Record::Comment, Stage::Start | Stage::End) => None,
+            (Record::Comment, _) => Some(self),
+            (Record::Trailer, _) if part == Part::File && self.rows_done() => Some(Stage::End),
+            _ => None,
         }
     }
 
@@ -95,9 +67,9 @@ impl Stage {
     pub(crate) fn rows_done(self) -> bool
         ensures { result ≡ rows_done self }
     {
-        match self {
-            Stage::FirstPosition | Stage::Position | Stage::Velocity => true,
-            _ => false,
-        }
+        matches!(
+            self,
+            Stage::FirstPosition | Stage::Position | Stage::Velocity
+        )
     }
 }

@@ -1,16 +1,26 @@
 //! The rows of a text that was checked, stored.
 ghost use Rattle.std.specs.Prelude.{◌≡◌, ◌≤◌, length, take};
-ghost use Rattle.reading.specs.Stores.{with_part, rows_in, first_flag_of};
+ghost use Rattle.reading.specs.Stores.{completed, with_part, rows_in, first_flag_of};
 
 use crate::part::RowPart;
 use lines::reader::Lines;
-use model::{LeapFlag, Row};
+use model::{LeapFlag, Row, Vector};
+
+/// Gives the last row its velocity.
+fn complete(rows: &mut [Row], velocity: Vector)
+    ensures { rows.new ≡ completed rows.old velocity }
+{
+    if let Some(last) = rows.last_mut() {
+        last.velocity = Some(velocity);
+    }
+}
 
 /// Adds a part to the first `n` rows, and answers how many there are then. (Inner: there is room for them.)
+// Kept: a count beside memory that the caller lends.
 fn store_part(rows: &mut [Row], n: usize, part: RowPart) -> usize
     requires held { n ≤ length rows.old }
-    requires room { length (with_part (take n rows.old) part) ≤ length rows.old }
-    ensures rows { take result rows.new ≡ with_part (take n rows.old) part }
+    requires room { length (with_part (take n rows.old) (Some part)) ≤ length rows.old }
+    ensures rows { take result rows.new ≡ with_part (take n rows.old) (Some part) }
     ensures held { result ≤ length rows.new }
 {
     match part {
@@ -19,18 +29,14 @@ fn store_part(rows: &mut [Row], n: usize, part: RowPart) -> usize
             n + 1
         }
         RowPart::Velocity(velocity) => {
-            if n > 0 {
-                let mut last = rows[n - 1];
-                last.velocity = Some(velocity);
-                rows[n - 1] = last;
-            }
+            complete(&mut rows[..n], velocity);
             n
         }
-        RowPart::Nothing => n,
     }
 }
 
 /// Stores the rows of a text at the start of the memory, and answers how many they are. (Inner: there is room for them.)
+// Kept: a count beside memory that the caller lends.
 pub fn store_rows(text: &[u8], rows: &mut [Row]) -> usize
     requires { length (rows_in text.now) ≤ length rows.old }
     ensures rows { take result rows.new ≡ rows_in text.now }
@@ -39,7 +45,9 @@ pub fn store_rows(text: &[u8], rows: &mut [Row]) -> usize
     let mut lines = Lines::new(text);
     let mut n = 0;
     while let Some(line) = lines.next_line() {
-        n = store_part(rows, n, RowPart::of(lines.number(), line));
+        if let Some(part) = RowPart::of(lines.number(), line) {
+            n = store_part(rows, n, part);
+        }
     }
     n
 }
@@ -50,7 +58,7 @@ pub fn first_flag(text: &[u8]) -> Option<LeapFlag>
 {
     let mut lines = Lines::new(text);
     while let Some(line) = lines.next_line() {
-        if let RowPart::Position(row) = RowPart::of(lines.number(), line) {
+        if let Some(RowPart::Position(row)) = RowPart::of(lines.number(), line) {
             return Some(row.flag);
         }
     }

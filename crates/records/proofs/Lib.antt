@@ -1,2 +1,2 @@
-pub mod ReadLaws
+pub mod FromFn
 pub mod RangeLaws

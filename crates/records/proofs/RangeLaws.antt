@@ -1,6 +1,6 @@
-use Rattle.std.proofs.Common.{◌≡◌, ℕ, ◌+◌, ◌≤◌, min, Bool, true, false, cond, ◌&&◌, ◌||◌, eqb, leb, List, [], ◌∷◌, ◌++◌, length, ℤ, pos, negsuc, nat_abs, Some, None, Ok, Err, Option, Result, sym, refl, ap, ◌∙◌, ⊎_elim, append_assoc, append-nil, arith}
+use Rattle.std.proofs.Common.{◌≡◌, ℕ, ◌+◌, ◌≤◌, min, Bool, true, false, cond, ◌&&◌, ◌||◌, eqb, leb, List, [], ◌∷◌, ◌++◌, length, ℤ, pos, negsuc, nat_abs, Some, None, Ok, Err, Option, Result, sym, refl, ap, ◌∙◌, append_assoc, append-nil, arith}
 use lib.Signed.{le_z}
-use Rattle.std.proofs.lemmas.Bool.{cases_Bool, and_from, and_parts, eqb-true, leb-true}
+use Rattle.std.proofs.lemmas.Bool.{and_from, and_parts, eqb-true, leb-true}
 use Rattle.calendar.specs.Instants.{in_calendar}
 use Rattle.calendar.proofs.Moments.{in_calendar_lem}
 use Rattle.refusal.specs.declared.Refusal.{Refusal}
@@ -20,30 +20,27 @@ use Rattle.records.specs.Ranges.{is_text, is_in_bounds, in_field_by, in_field, i
 use Rattle.records.specs.Tables.{direction, day_number, second_of_day, leap_flag, position, fields_of}
 use Rattle.records.specs.Values.{number_in, value_at, number_at}
 
-by_bool : {P : Type 0} (b : Bool) → (b ≡ true → P) → (b ≡ false → P) → P
-by_bool b f g = ⊎_elim f g (cases_Bool b)
-
-never : {P : Type 0} → ◌≡◌ {A = ℕ} 0 1 → P
-never z = absurd (omega arith)
-
 either_false : (b c : Bool) → (b || (false && c)) ≡ true → b ≡ true
 either_false true c h = refl
 either_false false c h = h
 
 -- what a test lets through
+passed : {X E : Type 0} (b : Bool) (r : Result X E) (v : X) (e : E) → cond b r (Err e) ≡ Ok v → (b ≡ true) × (r ≡ Ok v)
+passed true r v e p = (refl, p)
+passed false r v e p = cc
+
 chosen : {X E : Type 0} (b : Bool) (x v : X) (e : E) → ◌≡◌ {A = Result X E} (cond b (Ok x) (Err e)) (Ok v) → (b ≡ true) × (x ≡ v)
-chosen true x v e p = (refl, cc)
-chosen false x v e p = never (cc)
+chosen b x v e p = let q = passed b (Ok x) v e p in (q.0, cc)
 
 text_in : (b : Bool) (w : List ℕ) (v : Value) → text_if b w ≡ Ok v → is_text v ≡ true
 text_in b w v p = let q = chosen b _ v _ p in ap is_text (sym q.1)
 
 number_in_lem : (f : Field) (o : Option ℤ) (v : Value) → number_if f o ≡ Ok v → is_in_bounds f v ≡ true
-number_in_lem f None v p = never (cc)
+number_in_lem f None v p = cc
 number_in_lem f (Some z) v p = let q = chosen (in_bounds f z) (Number z) v _ p in ap (is_in_bounds f) (sym q.1) ∙ q.0
 
 day_in : (f : Field) (last : ℕ) (o : Option ℤ) (v : Value) → day_if f last o ≡ Ok v → is_in_bounds f v ≡ true
-day_in f last None v p = never (cc)
+day_in f last None v p = cc
 day_in f last (Some z) v p =
     let q = chosen (in_bounds f z && le_z z (pos last)) (Number z) v _ p in
     ap (is_in_bounds f) (sym q.1) ∙ (and_parts (in_bounds f z) (le_z z (pos last)) q.0).0
@@ -69,7 +66,7 @@ none_added fs ws acc vs h n p = let e : vs ≡ acc = cc in record { more = []; a
 by_value : (line : ℕ) (f : Field) (fs : List Field) (w : List ℕ) (ws : List (List ℕ)) (acc vs : List Value) (r : Result Value Fault) → r ≡ field_value f w acc
     → ((v : Value) → read_on line fs ws (acc ++ (v ∷ [])) ≡ Ok vs → Added fs ws (acc ++ (v ∷ [])) vs)
     → onward r line (length acc + 2) (λ v. read_on line fs ws (acc ++ (v ∷ []))) ≡ Ok vs → Added (f ∷ fs) (w ∷ ws) acc vs
-by_value line f fs w ws acc vs (Err e) q next p = never (cc)
+by_value line f fs w ws acc vs (Err e) q next p = cc
 by_value line f fs w ws acc vs (Ok v) q next p =
     let a = next v p in
     record {
@@ -92,19 +89,17 @@ pub record ReadRight (t : Record) (rest : List ℕ) (vs : List Value) : Type 0 w
 
 pub read_right : (line : ℕ) (t : Record) (rest : List ℕ) (vs : List Value) → read_record line t rest ≡ Ok vs → ReadRight t rest vs
 read_right line t rest vs p =
-    by_bool (count_fits t (length (words rest)))
-    (λ h. let q : read_on line (fields_of t) (words rest) [] ≡ Ok vs = rw h at p in
-    let a = read_adds line (fields_of t) (words rest) [] vs q in
-    record { fits = h; inside = ap (in_fields (fields_of t)) a.all ∙ a.inside; count = ap length a.all ∙ a.count })
-    (λ h. let q : ◌≡◌ {A = Result (List Value) Refusal} (Err (WordCount line)) (Ok vs) = rw h at p in never (cc))
+    let q = passed (count_fits t (length (words rest))) (read_on line (fields_of t) (words rest) []) vs (WordCount line) p in
+    let a = read_adds line (fields_of t) (words rest) [] vs q.1 in
+    record { fits = q.0; inside = ap (in_fields (fields_of t)) a.all ∙ a.inside; count = ap length a.all ∙ a.count }
 
 in_range : (low high : ℕ) (z : ℤ) → (le_z (pos low) z && le_z z (pos high)) ≡ true → (low ≤ nat_abs z) × (nat_abs z ≤ high)
 in_range low high (pos n) h = let p = and_parts (leb low n) (leb n high) h in (leb-true low n p.0, leb-true n high p.1)
-in_range low high (negsuc n) h = never (let p = and_parts (le_z (pos low) (negsuc n)) (le_z (negsuc n) (pos high)) h in let q : false ≡ true = p.0 in cc)
+in_range low high (negsuc n) h = let p = and_parts (le_z (pos low) (negsuc n)) (le_z (negsuc n) (pos high)) h in let q : false ≡ true = p.0 in cc
 
 bounded : (f : Field) (low high : ℕ) (v : Value) → f.least ≡ pos low → f.greatest ≡ pos high → is_in_bounds f v ≡ true → (low ≤ nat_abs (number_in v)) × (nat_abs (number_in v) ≤ high)
 bounded f low high (Number z) l g h = in_range low high z (sym (λ i. le_z (l i) z && le_z z (g i)) ∙ h)
-bounded f low high (Text n) l g h = never (cc)
+bounded f low high (Text n) l g h = cc
 
 three : (a b c : Field) (fs : List Field) (vs : List Value) → 3 ≤ length vs → in_fields (a ∷ (b ∷ (c ∷ fs))) vs ≡ true → (in_field b (value_at vs 1) ≡ true) × (in_field c (value_at vs 2) ≡ true)
 three a b c fs [] n h = absurd (omega arith)

@@ -1,4 +1,5 @@
-use Rattle.std.specs.Prelude.{ℕ, ◌-◌, Bool, true, false, cond, ◌&&◌, ◌||◌, List, [], ◌∷◌, length, ℤ, pos, Some, None, Ok, Err, Option, Result, ◌==◌, int_le, nat_le, nat_lt, slice_index_or, unsigned_abs}
+use Rattle.std.specs.Prelude.{ℕ, ◌-◌, Bool, false, cond, ◌&&◌, ◌||◌, List, [], ◌∷◌, length, ℤ, pos, Some, None, Ok, Err, Option, Result, ◌==◌, int_le, nat_le, nat_lt, slice_index_or, unsigned_abs}
+use Rattle.std.specs.List.{list_all}
 use Rattle.calendar.specs.Dates.{days_in_month}
 use Rattle.model.specs.Names.{name_of}
 use Rattle.numbers.specs.Values.{whole_of, decimal_of}
@@ -15,8 +16,7 @@ abbrev pub is_name_byte : ℕ → Bool
 is_name_byte b = (nat_le 65 b && nat_le b 90) || ((nat_le 97 b && nat_le b 122) || (nat_le 48 b && nat_le b 57))
 
 abbrev pub all_name_bytes : List ℕ → Bool
-all_name_bytes [] = true
-all_name_bytes (b ∷ bs) = is_name_byte b && all_name_bytes bs
+all_name_bytes w = list_all is_name_byte w
 
 abbrev pub is_cpf : List ℕ → Bool
 is_cpf [] = false

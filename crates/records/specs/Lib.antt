@@ -4,3 +4,4 @@ pub mod Fields
 pub mod Reads
 pub mod Values
 pub mod Ranges
+pub mod Builds

@@ -1,4 +1,4 @@
-use Rattle.std.specs.Prelude.{◌≡◌, ℕ, ◌+◌, ◌≤◌, Bool, true, false, cond, ◌&&◌, ◌||◌, List, [], ◌∷◌, ◌++◌, length, take, Ok, Err, Result, ◌==◌}
+use Rattle.std.specs.Prelude.{ℕ, ◌+◌, ◌≤◌, Bool, true, false, cond, ◌&&◌, ◌||◌, List, [], ◌∷◌, ◌++◌, length, Ok, Err, Result, ◌==◌}
 use Rattle.std.specs.List.{AllByRecursion}
 use Rattle.refusal.specs.declared.Refusal.{Refusal}
 use Rattle.refusal.specs.declared.Refusal.TheVariants.{WordCount, WrongForm, OutOfRange}
@@ -16,6 +16,10 @@ use Rattle.records.specs.Tables.{fields_of}
 abbrev pub fault_at : ℕ → ℕ → Fault → Refusal
 fault_at line word fault.Form = WrongForm line word
 fault_at line word fault.Range = OutOfRange line word
+
+abbrev pub refused_at : ℕ → ℕ → Result Value Fault → Result Value Refusal
+refused_at line word (Ok v) = Ok v
+refused_at line word (Err e) = Err (fault_at line word e)
 
 abbrev pub onward : Result Value Fault → ℕ → ℕ → (Value → Result (List Value) Refusal) → Result (List Value) Refusal
 onward (Ok v) line word go = go v
@@ -49,8 +53,3 @@ read_record line t rest = cond (count_fits t (length (words rest))) (read_on lin
 -- a number's places leave room for twelve digits before the point
 abbrev pub Fine : List Field → Type 0
 Fine fs = AllByRecursion (λ f. f.places ≤ 6) fs
-
--- what a call answers, and the values that it left
-abbrev pub Told : Result ℕ Refusal → Result (List Value) Refusal → List Value → Type 0
-Told (Ok n) s out = s ≡ Ok (take n out)
-Told (Err e) s out = s ≡ Err e

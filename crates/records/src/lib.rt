@@ -1,6 +1,7 @@
-//! The records of a file: their types, their fields in one table each, and the words read by those fields.
+//! The records of a file: their types, their fields in one table each, the words read by those fields, and what these say.
 #![tactic(auto)]
 
+pub mod contents;
 pub mod field;
 pub mod read;
 pub mod record;

@@ -1,16 +1,17 @@
 //! Words read by the fields of their record.
-ghost use Rattle.std.specs.Prelude.{◌≡◌, ◌≤◌, [], length, pos, IfOk, Ok, Err, MatchResult};
+ghost use Rattle.std.specs.Prelude.{◌≡◌, ◌≤◌, ◌+◌, [], length, ℤ, pos, Ok, Err, Option, MatchResult};
 ghost use Rattle.lines.specs.Words.{words as words_in};
 ghost use Rattle.records.specs.Fields.{is_name_byte, all_name_bytes, is_cpf, in_bounds, number_if, day_if, text_if, date_number, last_day, field_value};
-ghost use Rattle.records.specs.Reads.{fault_at, read_on, count_fits, read_record, is_h1, Fine, Told};
+ghost use Rattle.records.specs.Reads.{fault_at, refused_at, read_on, count_fits, read_record};
+ghost use Rattle.records.specs.Tables.{fields_of};
 ghost use Rattle.records.specs.Values.{values_of};
 
 use crate::field::{Fault, Field, Form, Value};
 use crate::record::Record;
 use crate::tables::fields_of;
-use crate::values::{MOST_FIELDS, Values};
+use crate::values::Values;
 use calendar::date::days_in_month;
-use lines::words::{count_words, next_word};
+use lines::words::{Words, count_words};
 use model::name::Name;
 use numbers::value::{decimal_value, whole_value};
 use refusal::Refusal;
@@ -18,72 +19,52 @@ use refusal::Refusal;
 fn is_name_byte(b: u8) -> bool
     ensures { result ≡ is_name_byte b }
 {
-    b >= b'A' && b <= b'Z' || b >= b'a' && b <= b'z' || b >= b'0' && b <= b'9'
+    b.is_ascii_alphanumeric()
 }
 
 fn all_name_bytes(word: &[u8]) -> bool
     ensures { result ≡ all_name_bytes word.now }
 {
-    for b in word {
-        if !is_name_byte(*b) {
-            return false;
-        }
-    }
-    true
+    word.iter().all(|b| is_name_byte(*b))
 }
 
 fn is_cpf(word: &[u8]) -> bool
     ensures { result ≡ is_cpf word.now }
 {
-    match word {
-        [a, b, c] => *a == b'C' && *b == b'P' && *c == b'F',
-        _ => false,
-    }
+    matches!(word, b"CPF")
 }
 
 impl Field {
     fn in_bounds(&self, value: i64) -> bool
         ensures { result ≡ in_bounds self.now value }
     {
-        self.least <= value && value <= self.greatest
+        (self.least..=self.greatest).contains(&value)
     }
 
     fn length_fits(&self, word: &[u8]) -> bool
         ensures { result ≡ in_bounds self.now (pos (length word.now)) }
     {
-        match i64::try_from(word.len()) {
-            Ok(len) => self.in_bounds(len),
-            Err(_) => false,
+        i64::try_from(word.len()).is_ok_and(|len| self.in_bounds(len))
+    }
+
+    /// The field with no value above `last`.
+    fn up_to(self, last: u32) -> Field
+        ensures { (value : Option ℤ) → number_if result value ≡ day_if self last value }
+    {
+        Field {
+            greatest: self.greatest.min(i64::from(last)),
+            ..self
         }
     }
 
     fn number(&self, value: Option<i64>) -> Result<Value, Fault>
         ensures { result ≡ number_if self.now value }
     {
-        match value {
-            None => Err(Fault::Form),
-            Some(v) => {
-                if self.in_bounds(v) {
-                    Ok(Value::Number(v))
-                } else {
-                    Err(Fault::Range)
-                }
-            }
-        }
-    }
-
-    fn day(&self, last: u32, value: Option<i64>) -> Result<Value, Fault>
-        ensures { result ≡ day_if self.now last value }
-    {
-        match value {
-            None => Err(Fault::Form),
-            Some(v) => {
-                if self.in_bounds(v) && v <= i64::from(last) {
-                    Ok(Value::Number(v))
-                } else {
-                    Err(Fault::Range)
-                }
-            }
+        let value = value.ok_or(Fault::Form)?;
+        if self.in_bounds(value) {
+            Ok(Value::Number(value))
+        } else {
+            Err(Fault::Range)
         }
     }
 }
@@ -91,32 +72,27 @@ impl Field {
 fn text(ok: bool, word: &[u8]) -> Result<Value, Fault>
     ensures { result ≡ text_if ok word.now }
 {
-    if ok {
-        Ok(Value::Text(Name::of(word)))
-    } else {
-        Err(Fault::Form)
-    }
+    ok.then(|| Value::Text(Name::of(word))).ok_or(Fault::Form)
 }
 
 /// A year, month, day, hour, minute or second as a number; 0 for what is none.
 pub fn date_number(value: Value) -> u32
     ensures { result ≡ date_number value }
 {
-    match value {
-        Value::Number(v) => { if v >= 0 && v <= 9999 { v as u32 } else { 0 } }
-        Value::Text(_) => 0,
-    }
+    u32::try_from(value.number())
+        .ok()
+        .filter(|n| *n <= 9_999)
+        .unwrap_or(0)
 }
 
 /// The days of the month that the last two values name.
 fn last_day(before: &[Value]) -> u32
     ensures { result ≡ last_day before.now }
 {
-    let n = before.len();
-    if n < 2 {
-        return 0;
+    match before {
+        [.., year, month] => days_in_month(date_number(*year), date_number(*month)),
+        _ => 0,
     }
-    days_in_month(date_number(before[n - 2]), date_number(before[n - 1]))
 }
 
 /// The value of a word in its field, after the values of the words before it.
@@ -129,7 +105,7 @@ fn read_field(field: Field, word: &[u8], before: &[Value]) -> Result<Value, Faul
         Form::Name => text(field.length_fits(word) && all_name_bytes(word), word),
         Form::Note => text(field.length_fits(word), word),
         Form::Whole => field.number(whole_value(word)),
-        Form::DayOfMonth => field.day(last_day(before), whole_value(word)),
+        Form::DayOfMonth => field.up_to(last_day(before)).number(whole_value(word)),
         Form::Decimal => field.number(decimal_value(word, field.places)),
     }
 }
@@ -146,29 +122,24 @@ impl Fault {
     }
 }
 
-/// The words by their fields, from the left; answers how many values it wrote.
-fn read_fields(
-    line: usize,
-    words: &[u8],
-    fields: &[Field],
-    out: &mut [Value],
-) -> Result<usize, Refusal>
-    requires { (length fields.now ≤ length out.old) × ((length fields.now ≤ 22) × (Fine fields.now)) }
-    ensures told { Told result (read_on line fields.now (words_in words.now) []) out.new }
-    ensures inside { IfOk result (λ n. n ≤ 22) }
+/// The value of the word that comes after those whose values are given; the record's type is word 1.
+fn read_word(line: usize, field: Field, word: &[u8], before: &[Value]) -> Result<Value, Refusal>
+    requires { field.places ≤ 6 }
+    ensures { result ≡ refused_at line (length before.now + 2) (field_value field word.now before.now) }
 {
-    let mut rest = words;
-    for (i, field) in fields.iter().enumerate() {
-        let Some((word, after)) = next_word(rest) else {
-            return Ok(i);
-        };
-        match read_field(*field, word, &out[0..i]) {
-            Ok(value) => out[i] = value,
-            Err(fault) => return Err(fault.at(line, i + 2)),
-        }
-        rest = after;
+    read_field(field, word, before).map_err(|fault| fault.at(line, before.len() + 2))
+}
+
+/// The words by the fields of their record, from the left, as far as there are both.
+fn read_fields(line: usize, kind: Record, words: &[u8]) -> Result<Values, Refusal>
+    ensures { MatchResult result (λ v. read_on line (fields_of kind) (words_in words.now) [] ≡ Ok (values_of v)) (λ e. read_on line (fields_of kind) (words_in words.now) [] ≡ Err e) }
+{
+    let mut values = Values::none();
+    for (field, word) in fields_of(kind).iter().zip(Words::new(words)) {
+        let value = read_word(line, *field, word, values.as_slice())?;
+        values.push(value);
     }
-    Ok(fields.len())
+    Ok(values)
 }
 
 /// Whether a record has this many words after its type: one for each field, but H1 may lack its notes.
@@ -176,10 +147,7 @@ fn count_fits(kind: Record, n: usize) -> bool
     ensures { result ≡ count_fits kind n }
 {
     let full = fields_of(kind).len();
-    match kind {
-        Record::H1 => n == full || n == full - 1,
-        _ => n == full,
-    }
+    n == full || kind == Record::H1 && n == full - 1
 }
 
 /// The values of a record's words after its type. Refusals: 15, then 16 and 17 from the left.
@@ -189,7 +157,5 @@ pub fn read_record(line: usize, kind: Record, words: &[u8]) -> Result<Values, Re
     if !count_fits(kind, count_words(words)) {
         return Err(Refusal::WordCount { line });
     }
-    let mut items = [Value::Number(0); MOST_FIELDS];
-    let len = read_fields(line, words, fields_of(kind), &mut items)?;
-    Ok(Values { items, len })
+    read_fields(line, kind, words)
 }

@@ -3,7 +3,7 @@ ghost use Rattle.std.specs.Prelude.{◌≡◌};
 ghost use Rattle.records.specs.Types.{type_of, is_comment, record_of};
 
 /// The records of a file.
-#[derive(Clone, Copy, PartialEq, Debug)]
+#[derive(Clone, Copy, PartialEq, Eq, Debug)]
 pub enum Record {
     /// `H1`: who predicted what, and when.
     H1,
@@ -46,25 +46,19 @@ impl Record {
     pub fn is_comment(self) -> bool
         ensures { result ≡ is_comment self }
     {
-        match self {
-            Record::Comment => true,
-            _ => false,
-        }
+        self == Record::Comment
     }
 
     /// The record of a line: a known type, and after it a space, the end of the line, or a comment's text.
+    // Kept: an Option, since its refusal takes the number of the line, which is not known here.
     pub fn of(line: &[u8]) -> Option<Record>
         ensures { result ≡ record_of line.now }
     {
         match line {
             [a, b] => Record::of_type(*a, *b),
             [a, b, c, ..] => {
-                let record = Record::of_type(*a, *b)?;
-                if *c == b' ' || record.is_comment() {
-                    Some(record)
-                } else {
-                    None
-                }
+                let spaced = *c == b' ';
+                Record::of_type(*a, *b).filter(|record| spaced || record.is_comment())
             }
             _ => None,
         }

@@ -5,221 +5,82 @@ ghost use Rattle.records.specs.Tables.{fields_of};
 use crate::field::{Field, Form, Layout};
 use crate::record::Record;
 
-const CPF: Field = Field {
-    form: Form::Cpf,
-    places: 0,
-    least: 3,
-    greatest: 3,
-    layout: Layout::Plain,
-};
+/// A field: its form, its places, its range, and how it is written.
+macro_rules! field {
+    ($form:ident, $places:literal, $least:literal..=$greatest:literal, $($layout:tt)+) => {
+        Field {
+            form: Form::$form,
+            places: $places,
+            least: $least,
+            greatest: $greatest,
+            layout: Layout::$($layout)+,
+        }
+    };
+}
 
-const VERSION: Field = Field {
-    form: Form::Whole,
-    places: 0,
-    least: 2,
-    greatest: 2,
-    layout: Layout::Plain,
-};
+const CPF: Field = field!(Cpf, 0, 3..=3, Plain);
 
-const SOURCE: Field = Field {
-    form: Form::Name,
-    places: 0,
-    least: 3,
-    greatest: 3,
-    layout: Layout::Plain,
-};
+const VERSION: Field = field!(Whole, 0, 2..=2, Plain);
 
-const YEAR: Field = Field {
-    form: Form::Whole,
-    places: 0,
-    least: 1_970,
-    greatest: 2_099,
-    layout: Layout::Plain,
-};
+const SOURCE: Field = field!(Name, 0, 3..=3, Plain);
 
-const MONTH: Field = Field {
-    form: Form::Whole,
-    places: 0,
-    least: 1,
-    greatest: 12,
-    layout: Layout::TwoDigits,
-};
+const YEAR: Field = field!(Whole, 0, 1_970..=2_099, Plain);
 
-const DAY: Field = Field {
-    form: Form::DayOfMonth,
-    places: 0,
-    least: 1,
-    greatest: 31,
-    layout: Layout::TwoDigits,
-};
+const MONTH: Field = field!(Whole, 0, 1..=12, TwoDigits);
 
-const HOUR: Field = Field {
-    form: Form::Whole,
-    places: 0,
-    least: 0,
-    greatest: 23,
-    layout: Layout::TwoDigits,
-};
+const DAY: Field = field!(DayOfMonth, 0, 1..=31, TwoDigits);
 
-const MINUTE: Field = Field {
-    form: Form::Whole,
-    places: 0,
-    least: 0,
-    greatest: 59,
-    layout: Layout::TwoDigits,
-};
+const HOUR: Field = field!(Whole, 0, 0..=23, TwoDigits);
 
-const SECOND: Field = Field {
-    form: Form::Whole,
-    places: 0,
-    least: 0,
-    greatest: 59,
-    layout: Layout::TwoDigits,
-};
+const MINUTE: Field = field!(Whole, 0, 0..=59, TwoDigits);
 
-const SEQUENCE: Field = Field {
-    form: Form::Whole,
-    places: 0,
-    least: 0,
-    greatest: 999,
-    layout: Layout::Plain,
-};
+const SECOND: Field = field!(Whole, 0, 0..=59, TwoDigits);
 
-const SUB_DAILY: Field = Field {
-    form: Form::Whole,
-    places: 0,
-    least: 1,
-    greatest: 99,
-    layout: Layout::Plain,
-};
+const SEQUENCE: Field = field!(Whole, 0, 0..=999, Plain);
 
-const TARGET: Field = Field {
-    form: Form::Name,
-    places: 0,
-    least: 1,
-    greatest: 10,
-    layout: Layout::Plain,
-};
+const SUB_DAILY: Field = field!(Whole, 0, 1..=99, Plain);
 
-const NOTES: Field = Field {
-    form: Form::Note,
-    places: 0,
-    least: 1,
-    greatest: 10,
-    layout: Layout::Plain,
-};
+const TARGET: Field = field!(Name, 0, 1..=10, Plain);
 
-const ILRS_NUMBER: Field = Field {
-    form: Form::Whole,
-    places: 0,
-    least: 0,
-    greatest: 99_999_999,
-    layout: Layout::Plain,
-};
+const NOTES: Field = field!(Note, 0, 1..=10, Plain);
 
-const SIC: Field = Field {
-    form: Form::Whole,
-    places: 0,
-    least: 0,
-    greatest: 9_999,
-    layout: Layout::Plain,
-};
+const ILRS_NUMBER: Field = field!(Whole, 0, 0..=99_999_999, Plain);
 
-const NORAD_NUMBER: Field = Field {
-    form: Form::Whole,
-    places: 0,
-    least: 0,
-    greatest: 99_999_999,
-    layout: Layout::Plain,
-};
+const SIC: Field = field!(Whole, 0, 0..=9_999, Plain);
 
-const INTERVAL: Field = Field {
-    form: Form::Whole,
-    places: 0,
-    least: 0,
-    greatest: 99_999,
-    layout: Layout::Plain,
-};
+const NORAD_NUMBER: Field = field!(Whole, 0, 0..=99_999_999, Plain);
 
-const ONE_DIGIT: Field = Field {
-    form: Form::Whole,
-    places: 0,
-    least: 0,
-    greatest: 9,
-    layout: Layout::Plain,
-};
+const INTERVAL: Field = field!(Whole, 0, 0..=99_999, Plain);
 
-const TWO_DIGITS: Field = Field {
-    form: Form::Whole,
-    places: 0,
-    least: 0,
-    greatest: 99,
-    layout: Layout::Plain,
-};
+const ONE_DIGIT: Field = field!(Whole, 0, 0..=9, Plain);
 
-const RUN_OFF: Field = Field {
-    form: Form::Whole,
-    places: 0,
-    least: -9_999,
-    greatest: 99_999,
-    layout: Layout::Plain,
-};
+const TWO_DIGITS: Field = field!(Whole, 0, 0..=99, Plain);
 
-const OFFSET: Field = Field {
-    form: Form::Decimal,
-    places: 4,
-    least: 0,
-    greatest: 999_999,
-    layout: Layout::Plain,
-};
+const RUN_OFF: Field = field!(Whole, 0, -9_999..=99_999, Plain);
 
-const DIRECTION: Field = Field {
-    form: Form::Whole,
-    places: 0,
-    least: 0,
-    greatest: 0,
-    layout: Layout::Plain,
-};
+const OFFSET: Field = field!(Decimal, 4, 0..=999_999, Plain);
 
-const DAY_NUMBER: Field = Field {
-    form: Form::Whole,
-    places: 0,
-    least: 40_587,
-    greatest: 88_068,
-    layout: Layout::Right(5),
-};
+const DIRECTION: Field = field!(Whole, 0, 0..=0, Plain);
 
-const SECOND_OF_DAY: Field = Field {
-    form: Form::Decimal,
-    places: 6,
-    least: 0,
-    greatest: 86_399_999_999,
-    layout: Layout::Right(13),
-};
+const DAY_NUMBER: Field = field!(Whole, 0, 40_587..=88_068, Right(5));
 
-const LEAP_FLAG: Field = Field {
-    form: Form::Whole,
-    places: 0,
-    least: -1,
-    greatest: 1,
-    layout: Layout::Right(2),
-};
+const SECOND_OF_DAY: Field = field!(Decimal, 6, 0..=86_399_999_999, Right(13));
 
-const POSITION: Field = Field {
-    form: Form::Decimal,
-    places: 3,
-    least: -999_999_999_999_999,
-    greatest: 999_999_999_999_999,
-    layout: Layout::Right(17),
-};
+const LEAP_FLAG: Field = field!(Whole, 0, -1..=1, Right(2));
 
-const VELOCITY: Field = Field {
-    form: Form::Decimal,
-    places: 6,
-    least: -99_999_999_999_999_999,
-    greatest: 99_999_999_999_999_999,
-    layout: Layout::Right(19),
-};
+const POSITION: Field = field!(
+    Decimal,
+    3,
+    -999_999_999_999_999..=999_999_999_999_999,
+    Right(17)
+);
+
+const VELOCITY: Field = field!(
+    Decimal,
+    6,
+    -99_999_999_999_999_999..=99_999_999_999_999_999,
+    Right(19)
+);
 
 const H1: [Field; 11] = [
     CPF, VERSION, SOURCE, YEAR, MONTH, DAY, HOUR, SEQUENCE, SUB_DAILY, TARGET, NOTES,
@@ -250,9 +111,7 @@ const H2: [Field; 22] = [
     TWO_DIGITS,
 ];
 
-const H3: [Field; 9] = [
-    RUN_OFF, RUN_OFF, RUN_OFF, RUN_OFF, RUN_OFF, RUN_OFF, RUN_OFF, RUN_OFF, RUN_OFF,
-];
+const H3: [Field; 9] = [RUN_OFF; 9];
 
 const H5: [Field; 1] = [OFFSET];
 
@@ -279,8 +138,6 @@ pub fn fields_of(kind: Record) -> &'static [Field]
         Record::H5 => &H5,
         Record::Position => &POSITION_RECORD,
         Record::Velocity => &VELOCITY_RECORD,
-        Record::H9 => &[],
-        Record::Comment => &[],
-        Record::Trailer => &[],
+        Record::H9 | Record::Comment | Record::Trailer => &[],
     }
 }

@@ -9,9 +9,10 @@ pub mod parts;
 pub const MOST_FIELDS: usize = 22;
 
 /// The values of a record's words, in their order.
+// Kept: the kit's `ArrayVec` inside would take `Copy` from callers and ask a `Default` of `Value`, and the struct and its methods would stay.
 #[derive(Clone, Copy)]
 pub struct Values {
-    pub items: [Value; 22],
+    pub items: [Value; MOST_FIELDS],
     pub len: usize,
     ghost full: { length items ≡ 22 },
     ghost inside: { len ≤ 22 },

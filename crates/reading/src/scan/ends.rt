@@ -1,39 +1,21 @@
 //! The end of a text.
 ghost use Rattle.std.specs.Prelude.{◌≡◌, ◌+◌, ◌^◌, ◌<◌};
-ghost use Rattle.reading.specs.Ends.{same_second, span_agrees, is_end, span_refusal, end_refusal};
+ghost use Rattle.reading.specs.Ends.{span_agrees, span_refusal, end_refusal};
 
 use crate::build::Span;
 use crate::scan::Scan;
 use crate::stage::{Part, Stage};
-use cells::summary::{Cells, DaySecond};
+use cells::summary::Cells;
 use refusal::Refusal;
-
-fn same_second(a: DaySecond, b: DaySecond) -> bool
-    ensures { result ≡ same_second a b }
-{
-    a.day == b.day && a.second == b.second
-}
 
 impl Span {
     /// Whether what H2 states is so.
     fn agrees(&self, cells: Cells) -> bool
         ensures { result ≡ span_agrees self.now cells }
     {
-        same_second(self.start, cells.start)
-            && same_second(self.end, cells.end)
-            && self.interval >= 0
-            && self.interval.unsigned_abs() == u64::from(cells.interval)
-    }
-}
-
-impl Stage {
-    fn is_end(self) -> bool
-        ensures { result ≡ is_end self }
-    {
-        match self {
-            Stage::End => true,
-            _ => false,
-        }
+        self.start == cells.start
+            && self.end == cells.end
+            && self.interval == i64::from(cells.interval)
     }
 }
 
@@ -42,15 +24,13 @@ impl Scan {
     fn check_span(&self) -> Result<(), Refusal>
         ensures { result ≡ span_refusal self.now }
     {
-        match self.summary {
-            None => Err(Refusal::CellsDisagree),
-            Some(summary) => {
-                if self.span.agrees(summary.cells()) {
-                    Ok(())
-                } else {
-                    Err(Refusal::CellsDisagree)
-                }
-            }
+        if self
+            .summary
+            .is_some_and(|summary| self.span.agrees(summary.cells()))
+        {
+            Ok(())
+        } else {
+            Err(Refusal::CellsDisagree)
         }
     }
 
@@ -61,20 +41,9 @@ impl Scan {
         ensures { result ≡ end_refusal self.now lines }
     {
         match self.part {
-            Part::File => {
-                if self.stage.is_end() {
-                    self.check_span()
-                } else {
-                    Err(Refusal::OutOfPlace { line: lines + 1 })
-                }
-            }
-            Part::Block => {
-                if self.stage.rows_done() {
-                    Ok(())
-                } else {
-                    Err(Refusal::OutOfPlace { line: lines + 1 })
-                }
-            }
+            Part::File if self.stage == Stage::End => self.check_span(),
+            Part::Block if self.stage.rows_done() => Ok(()),
+            _ => Err(Refusal::OutOfPlace { line: lines + 1 }),
         }
     }
 }

@@ -1,17 +1,16 @@
 //! One line more.
-ghost use Rattle.std.specs.Prelude.{◌≡◌, ◌+◌, ◌^◌, ◌<◌, true, [], unsigned_abs};
-ghost use Rattle.calendar.specs.Instants.{in_calendar};
-ghost use Rattle.records.specs.Values.{values_of, number_at};
-ghost use Rattle.records.specs.declared.record.Record.TheVariants.{Position};
-ghost use Rattle.reading.specs.Scans.{Stepped, started, on_ok, row_count, row_refusal, with_row, taken, content_step, line_step, is_full_at};
+ghost use Rattle.std.specs.Prelude.{◌≡◌, ◌+◌, ◌^◌, ◌<◌};
+ghost use Rattle.reading.specs.Contents.{content_refusal, with_content};
+ghost use Rattle.reading.specs.Scans.{Stepped, started, row_count, row_refusal, line_step, is_full_at};
 
-use crate::build::{accuracy_of, offset_of, origin_of, row_of, satellite_of, span_of};
+use crate::build::Span;
+use crate::content::Content;
+use crate::part::RowPart;
 use crate::scan::Scan;
 use crate::stage::{Part, Stage};
 use cells::summary::Summary;
 use model::Row;
-use model::header::Header;
-use records::read::read_record;
+use model::header::{Header, Origin, Satellite};
 use records::record::Record;
 use records::values::Values;
 use refusal::Refusal;
@@ -30,12 +29,12 @@ impl Scan {
                 Part::Block => Stage::H9,
             },
             header: Header {
-                origin: origin_of(&none),
-                satellite: satellite_of(&none),
+                origin: Origin::from(&none),
+                satellite: Satellite::from(&none),
                 accuracy: None,
                 offset: None,
             },
-            span: span_of(&none),
+            span: Span::from(&none),
             summary: None,
         }
     }
@@ -45,7 +44,7 @@ impl Scan {
         ensures { result ≡ row_refusal line self.now row }
     {
         if let Some(before) = self.summary {
-            if row.at.joined() <= before.last.joined() {
+            if row.at <= before.last {
                 return Err(Refusal::NotAfter { line });
             }
             if !before.flag.allows(row.flag) {
@@ -61,91 +60,60 @@ impl Scan {
     fn row_count(&self) -> usize
         ensures { result ≡ row_count self.now }
     {
-        match self.summary {
-            None => 0,
-            Some(summary) => summary.count,
-        }
+        self.summary.map_or(0, |summary| summary.count)
     }
 
     fn is_full(&self) -> bool
         ensures { result ≡ is_full_at self.now.room (row_count self.now) }
     {
-        match self.room {
-            None => false,
-            Some(room) => self.row_count() >= room,
+        self.room.is_some_and(|room| self.row_count() >= room)
+    }
+
+    /// Whether what a record says may be added: only a row may not.
+    fn check(&self, line: usize, content: Content) -> Result<(), Refusal>
+        ensures { result ≡ content_refusal line self.now content }
+    {
+        match content {
+            Content::Rows(RowPart::Position(row)) => self.check_row(line, row),
+            _ => Ok(()),
         }
     }
 
-    fn add_row(&mut self, row: Row)
+    /// Adds what a record says.
+    fn add(&mut self, content: Content)
         requires { row_count self.old + 1 < 2 ^ 64 }
-        ensures { self.new ≡ with_row self.old row }
+        ensures { self.new ≡ with_content self.old content }
     {
-        match self.summary {
-            None => self.summary = Some(Summary::start(row)),
-            Some(before) => {
-                let mut summary = before;
-                summary.add(row);
-                self.summary = Some(summary);
+        match content {
+            Content::Origin(origin) => self.header.origin = origin,
+            Content::Satellite(satellite, span) => {
+                self.header.satellite = satellite;
+                self.span = span;
             }
+            Content::Accuracy(accuracy) => self.header.accuracy = Some(accuracy),
+            Content::Offset(offset) => self.header.offset = Some(offset),
+            Content::Rows(RowPart::Position(row)) => match &mut self.summary {
+                Some(summary) => summary.add(row),
+                None => self.summary = Some(Summary::start(row)),
+            },
+            Content::Rows(RowPart::Velocity(_)) => {}
         }
     }
 
-    fn take_row(&mut self, line: usize, row: Row) -> Result<(), Refusal>
-        requires { row_count self.old + 1 < 2 ^ 64 }
-        ensures { Stepped result (on_ok (row_refusal line self.old row) (with_row self.old row)) self.old self.new }
-    {
-        self.check_row(line, row)?;
-        self.add_row(row);
-        Ok(())
-    }
-
-    /// Takes the values of a record. (Inner: they were read by the fields of that record.)
-    fn take(&mut self, line: usize, kind: Record, values: &Values) -> Result<(), Refusal>
-        requires count { row_count self.old + 1 < 2 ^ 64 }
-        requires day { kind ≡ Position → in_calendar (unsigned_abs (number_at (values_of values.now) 1)) (unsigned_abs (number_at (values_of values.now) 2)) ≡ true }
-        ensures { Stepped result (taken line self.old kind (values_of values.now)) self.old self.new }
-    {
-        match kind {
-            Record::H1 => self.header.origin = origin_of(values),
-            Record::H2 => {
-                self.header.satellite = satellite_of(values);
-                self.span = span_of(values);
-            }
-            Record::H3 => self.header.accuracy = Some(accuracy_of(values)),
-            Record::H5 => self.header.offset = Some(offset_of(values)),
-            Record::Position => return self.take_row(line, row_of(values)),
-            Record::H9 => {}
-            Record::Velocity => {}
-            Record::Comment => {}
-            Record::Trailer => {}
-        }
-        Ok(())
-    }
-
-    /// What follows a record's type: 15, then 16 and 17 from the left, then 18, 19, 21. A comment's text is not looked at.
-    fn content(&mut self, line: usize, kind: Record, words: &[u8]) -> Result<(), Refusal>
-        requires { row_count self.old + 1 < 2 ^ 64 }
-        ensures { Stepped result (content_step line self.old kind words.now) self.old self.new }
-    {
-        if kind.is_comment() {
-            return Ok(());
-        }
-        let values = read_record(line, kind, words)?;
-        self.take(line, kind, &values)
-    }
-
-    /// One line more: 13, 14, and then its content. (Inner: there were fewer rows than lines.)
+    /// One line more: 13, 14, then 15 to 17 of its words, then 18, 19 and 21 of a row. (Inner: there were fewer rows than lines.)
     pub(crate) fn line(&mut self, number: usize, line: &[u8]) -> Result<(), Refusal>
         requires { row_count self.old < number }
         ensures { Stepped result (line_step number line.now self.old) self.old self.new }
     {
-        let Some(kind) = Record::of(line) else {
-            return Err(Refusal::UnknownRecord { line: number });
-        };
-        let Some(stage) = self.stage.next(self.part, kind) else {
-            return Err(Refusal::OutOfPlace { line: number });
-        };
-        self.content(number, kind, &line[2..])?;
+        let kind = Record::of(line).ok_or(Refusal::UnknownRecord { line: number })?;
+        let stage = self
+            .stage
+            .next(self.part, kind)
+            .ok_or(Refusal::OutOfPlace { line: number })?;
+        if let Some(content) = Content::read(number, kind, &line[2..])? {
+            self.check(number, content)?;
+            self.add(content);
+        }
         self.stage = stage;
         Ok(())
     }

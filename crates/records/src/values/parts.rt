@@ -1,5 +1,5 @@
 //! The values of a record, one by one.
-ghost use Rattle.std.specs.Prelude.{◌≡◌, []};
+ghost use Rattle.std.specs.Prelude.{◌≡◌, ◌<◌, [], ◌∷◌, ◌++◌, length};
 ghost use Rattle.records.specs.Values.{values_of, value_at, number_at, name_at};
 
 use crate::field::Value;
@@ -17,34 +17,39 @@ impl Values {
         }
     }
 
+    /// One value more. (Inner: there is room for it.)
+    pub(crate) fn push(&mut self, value: Value)
+        requires { length (values_of self.old) < 22 }
+        ensures { values_of self.new ≡ values_of self.old ++ (value ∷ []) }
+    {
+        self.items[self.len] = value;
+        self.len += 1;
+    }
+
+    pub(crate) fn as_slice(&self) -> &[Value]
+        ensures { result.now ≡ values_of self.now }
+    {
+        &self.items[..self.len]
+    }
+
     /// The value at a place counted from 0; the number 0 where there is none.
     pub fn get(&self, i: usize) -> Value
         ensures { result ≡ value_at (values_of self.now) i }
     {
-        if i < self.len {
-            self.items[i]
-        } else {
-            Value::Number(0)
-        }
+        self.as_slice().get(i).copied().unwrap_or(Value::Number(0))
     }
 
     /// The number at a place; 0 where there is none.
     pub fn number(&self, i: usize) -> i64
         ensures { result ≡ number_at (values_of self.now) i }
     {
-        match self.get(i) {
-            Value::Number(v) => v,
-            Value::Text(_) => 0,
-        }
+        self.get(i).number()
     }
 
     /// The text at a place; empty where there is none.
     pub fn name(&self, i: usize) -> Name
         ensures { result ≡ name_at (values_of self.now) i }
     {
-        match self.get(i) {
-            Value::Number(_) => Name::of(&[]),
-            Value::Text(name) => name,
-        }
+        self.get(i).name()
     }
 }

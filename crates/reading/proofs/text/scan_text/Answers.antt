@@ -30,16 +30,6 @@ returns-in_err-line c =
     let bad = sym (c.in_err-line.ensures.gives ∙ ap (λ f. next_line (c.loop-line.lines.line + 1) (drop c.loop-line.lines.at f)) c.loop-line.invariant.1) in
     rw (p.1, p.2) (sym (no_text c.args.text.now c.loop-line.lines.line c.loop-line.lines.at c.loop-line.scan _ bad) ∙ whole (goal.at.returns-in_err-line c).At-loop-line)
 
-pub line-requires : goal.line-requires
-line-requires c = let n = counted (goal.at.line-requires c).In-Some in omega (arith, c.number.ensures, c.loop-line.invariant.2)
-
-pub loop-line-smaller : goal.loop-line-smaller
-loop-line-smaller c =
-    let e = far (goal.at.loop-line-smaller c).In-Some in
-    let f = ap (λ f. length f.now) c.in_ok-line.ensures.file in
-    let g = ap length c.loop-line.invariant.1 in
-    omega (arith, c.next.new.self.inside)
-
 -- the line was taken under its number
 taken_at : (c : In-Some) (number : ℕ) → number ≡ c.next.new.self.line → (s : Scan) (r : Result Scan Refusal) → line_step number c.in-Some.line.now s ≡ r → line_step (c.loop-line.lines.line + 1) c.in-Some.line.now s ≡ r
 taken_at c number e s r p = ap (λ n. line_step n c.in-Some.line.now s) (sym (e ∙ counted c)) ∙ p
@@ -73,16 +63,7 @@ at_end c n e =
     ∙ sym (at_last c.args.text.now c.loop-line.lines.line c.loop-line.lines.at c.loop-line.scan none)
     ∙ whole (goal.at.In_default c).At-loop-line
 
-pub finish-requires : goal.finish-requires
-finish-requires c =
-    let f = ap (λ f. length f.now) c.in_ok-line.ensures.file in
-    let g = ap length c.loop-line.invariant.1 in
-    omega (arith, c.number-2.ensures, c.next.new.self.inside, c.next.new.self.counts, c.if-text-gt-LONGEST_TEXT.false)
-
 pub returns-in_err-finish : goal.returns-in_err-finish
 returns-in_err-finish c =
     let p = err_from_is_err_and c.from_residual-in_err-finish.result c.from_residual-in_err-finish.ensures.1 in
     rw (p.1, p.2) (ap (λ r. on_ok r c.loop-line.scan) c.in_err-finish.ensures ∙ at_end (goal.at.returns-in_err-finish c).In_default c.number-2.result c.number-2.ensures)
-
-pub returns : goal.returns
-returns c = ap (λ r. on_ok r c.loop-line.scan) c.in_ok-finish.ensures ∙ at_end (goal.at.returns c).In_default c.number-2.result c.number-2.ensures

@@ -1,9 +1,19 @@
-use Rattle.std.proofs.Common.{ap, ◌∙◌}
-use Rattle.std.proofs.lemmas.List.{take_rest}
-use Rattle.reading.specs.Stores.{part_by_record, part_by_type}
+use Rattle.std.proofs.Common.{◌≡◌, Some, sym, ap, ◌∙◌}
+use Rattle.std.specs.Result.{result_ok}
+use Rattle.reading.specs.Stores.{part_of}
+use Rattle.reading.proofs.PartLaws.{said, part_by}
 use Rattle.reading.proofs.part.RowPart.of.Goals as goal
+use Rattle.reading.proofs.part.RowPart.of.Goals.{After-read}
 
-pub returns-in-Some : goal.returns-in-Some
-returns-in-Some c =
-    let line = c.args.line.now in
-    c.part_of.ensures ∙ ap (λ l. part_by_record c.args.number l c.in-Some.kind) (take_rest line 2) ∙ ap (part_by_type c.args.number line) c.in-Some.ensures
+of_line : (c : After-read) → part_of c.args.number c.args.line.now ≡ said (result_ok c.read.result)
+of_line c = part_by c.args.number c.args.line.now c.in_ok-kind.kind c.read.result c.in_ok-kind.ensures c.read.ensures
+
+pub returns-in_err-ok : goal.returns-in_err-ok
+returns-in_err-ok c = c.from_residual-in_err-ok.ensures ∙ ap said c.in_err-ok.ensures.value ∙ sym (of_line (goal.at.returns-in_err-ok c).After-read)
+
+pub returns-in_err-branch : goal.returns-in_err-branch
+returns-in_err-branch c =
+    c.from_residual-in_err-branch.ensures ∙ ap (λ o. said (Some o)) (sym c.in_err-branch.was) ∙ ap said c.in_ok-ok.ensures.value ∙ sym (of_line (goal.at.returns-in_err-branch c).After-read)
+
+pub returns : goal.returns
+returns c = c.rows.ensures ∙ ap (λ o. said (Some o)) (sym c.in_ok-branch.was) ∙ ap said c.in_ok-ok.ensures.value ∙ sym (of_line (goal.at.returns c).After-read)
