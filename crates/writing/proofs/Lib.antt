@@ -1,4 +1,4 @@
-pub mod PlaceLaws
+pub mod OutputLaws
 pub mod FieldLaws
 pub mod RecordLaws
 pub mod FileLaws

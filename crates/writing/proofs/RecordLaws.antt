@@ -1,49 +1,39 @@
 -- The fields of a record one by one.
-use Rattle.std.proofs.Common.{◌≡◌, ℕ, ◌+◌, ◌<◌, ◌≤◌, min, ◌⊎◌, List, [], ◌∷◌, ◌++◌, length, get_or, drop, pos, refl, ap, inl, inr, arith}
-use Rattle.std.proofs.lemmas.List.{drop_more, drop_all, length-append}
-use Rattle.std.proofs.lemmas.Bool.{cases_lt}
-use Rattle.records.specs.declared.field.Form.TheVariants as form
-use Rattle.records.specs.declared.field.Layout.TheVariants.{Plain}
+use Rattle.std.proofs.Common.{◌≡◌, ℕ, zero, suc, ◌+◌, ◌<◌, ◌≤◌, min, List, [], ◌∷◌, ◌++◌, length, get_or, take, Some, None, Option, sym, refl, ap, ◌∙◌, append_assoc, append-nil, add-one, arith}
 use Rattle.records.specs.declared.field.Field.{Field}
 use Rattle.records.specs.declared.field.Value.{Value}
-use Rattle.records.specs.declared.field.Value.TheVariants.{Number}
-use Rattle.records.specs.Values.{value_at}
 use Rattle.records.specs.declared.record.Record.{Record}
 use Rattle.records.specs.declared.record.Record.TheVariants as rec
 use Rattle.records.specs.Tables.{fields_of}
-use Rattle.writing.specs.Texts.{type_text, field_text, fields_text, record_text}
+use Rattle.writing.specs.Texts.{type_text, field_text, fields_text, record_text, most_if}
 
--- the values with which the checker reads a field and a value by their place
-abbrev no_field : Field
-no_field = record { form = form.Cpf; places = 0; least = pos 0; greatest = pos 0; layout = Plain }
-
-abbrev pub field_at : List Field → ℕ → Field
-field_at fs i = get_or fs i no_field
-
--- the field and the value at i, and those behind them
-pub fields_more : (fs : List Field) (vs : List Value) (i : ℕ) → i < min (length fs) (length vs)
-    → fields_text (drop i fs) (drop i vs) ≡ (32 ∷ field_text (field_at fs i) (value_at vs i)) ++ fields_text (drop (i + 1) fs) (drop (i + 1) vs)
+-- the fields so far, with the field and the value at i
+fields_push : (fs : List Field) (vs : List Value) (i : ℕ) (f : Field) (v : Value) → i < length fs → i < length vs
+    → fields_text (take (suc i) fs) (take (suc i) vs) ≡ fields_text (take i fs) (take i vs) ++ (32 ∷ field_text (get_or fs i f) (get_or vs i v))
 unfolding fields_text
-fields_more fs vs i h =
-    let a : i < length fs = omega arith in
-    let b : i < length vs = omega arith in
-    rw (drop_more fs i no_field a, drop_more vs i (Number (pos 0)) b)
+fields_push [] vs i f v h k = absurd (omega arith)
+fields_push (g ∷ fs) [] i f v h k = absurd (omega arith)
+fields_push (g ∷ fs) (w ∷ vs) zero f v h k = simp append-nil
+fields_push (g ∷ fs) (w ∷ vs) (suc i) f v h k =
+    ap (λ t. (32 ∷ field_text g w) ++ t) (fields_push fs vs i f v (omega arith) (omega arith))
+    ∙ sym (append_assoc (32 ∷ field_text g w) (fields_text (take i fs) (take i vs)) (32 ∷ field_text (get_or fs i f) (get_or vs i v)))
 
-no_values : (fs : List Field) → fields_text fs [] ≡ []
+pub fields_next : (fs : List Field) (vs : List Value) (i n : ℕ) (f : Field) (v : Value) → n ≡ i + 1 → i < length fs → i < length vs → f ≡ get_or fs i f → v ≡ get_or vs i v
+    → fields_text (take i fs) (take i vs) ++ (32 ∷ field_text f v) ≡ fields_text (take n fs) (take n vs)
+fields_next fs vs i n f v e h k p q =
+    let before = fields_text (take i fs) (take i vs) in
+    ap (λ g. before ++ (32 ∷ field_text g v)) p ∙ ap (λ w. before ++ (32 ∷ field_text (get_or fs i f) w)) q
+    ∙ sym (fields_push fs vs i f v h k) ∙ ap (λ m. fields_text (take m fs) (take m vs)) (sym (e ∙ add-one i))
+
+-- all of them
+pub fields_all : (fs : List Field) (vs : List Value) (n : ℕ) → n ≡ min (length fs) (length vs) → fields_text (take n fs) (take n vs) ≡ fields_text fs vs
 unfolding fields_text
-no_values [] = refl
-no_values (f ∷ fs) = refl
-
-no_fields : (vs : List Value) → fields_text [] vs ≡ []
-unfolding fields_text
-no_fields vs = refl
-
-done_by : (fs : List Field) (vs : List Value) (i : ℕ) → min (length fs) (length vs) ≤ i → (length fs < length vs) ⊎ (length vs ≤ length fs) → fields_text (drop i fs) (drop i vs) ≡ []
-done_by fs vs i h (inl k) = let all : length fs ≤ i = omega arith in rw (drop_all i fs all) (no_fields (drop i vs))
-done_by fs vs i h (inr k) = let all : length vs ≤ i = omega arith in rw (drop_all i vs all) (no_values (drop i fs))
-
-pub fields_done : (fs : List Field) (vs : List Value) (i : ℕ) → min (length fs) (length vs) ≤ i → fields_text (drop i fs) (drop i vs) ≡ []
-fields_done fs vs i h = done_by fs vs i h (cases_lt (length fs) (length vs))
+fields_all [] vs zero e = refl
+fields_all (f ∷ fs) [] zero e = refl
+fields_all (f ∷ fs) (v ∷ vs) zero e = absurd (omega arith)
+fields_all [] vs (suc n) e = absurd (omega arith)
+fields_all (f ∷ fs) [] (suc n) e = absurd (omega arith)
+fields_all (f ∷ fs) (v ∷ vs) (suc n) e = ap (λ t. (32 ∷ field_text f v) ++ t) (fields_all fs vs n (omega arith))
 
 -- no record has more fields than H2
 pub fields_few : (t : Record) → length (fields_of t) ≤ 22
@@ -68,9 +58,10 @@ type_long rec.Velocity = refl
 type_long rec.Comment = refl
 type_long rec.Trailer = refl
 
+pub most_if_le : {A : Type 0} (n : ℕ) (o : Option A) → most_if (λ _. n) o ≤ n
+most_if_le n None = omega arith
+most_if_le n (Some x) = omega arith
+
 pub record_is : (t : Record) (vs : List Value) → record_text t vs ≡ type_text t ++ (fields_text (fields_of t) vs ++ (10 ∷ []))
 unfolding record_text
 record_is t vs = refl
-
-pub length_record : (t : Record) (vs : List Value) → length (record_text t vs) ≡ length (fields_text (fields_of t) vs) + 3
-length_record t vs = omega (arith, ap length (record_is t vs), length-append (type_text t) (fields_text (fields_of t) vs ++ (10 ∷ [])), length-append (fields_text (fields_of t) vs) (10 ∷ []), type_long t)

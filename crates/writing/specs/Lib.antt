@@ -1,4 +1,5 @@
 pub mod Places
+pub mod Outputs
 pub mod Texts
 pub mod Values
 pub mod Files

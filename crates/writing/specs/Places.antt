@@ -1,15 +1,10 @@
-use Rattle.std.specs.Prelude.{◌≡◌, ℕ, ◌+◌, cond, List, ◌++◌, length, take, drop, Ok, Err, Result, nat_le}
+use Rattle.std.specs.Prelude.{ℕ, ◌+◌, cond, List, ◌++◌, length, take, drop, Ok, Err, Result, nat_le}
 use Rattle.refusal.specs.declared.Refusal.{Refusal}
 use Rattle.refusal.specs.declared.Refusal.TheVariants.{OutputTooShort}
 
 -- the output after a text is written at a place
 unfoldable pub put_at : List ℕ → ℕ → List ℕ → List ℕ
 put_at out at text = take at out ++ (text ++ drop (at + length text) out)
-
--- a text is written at a place: the output after it, and where the next text begins
-pub record Put (out : List ℕ) (at : ℕ) (text after : List ℕ) (n : ℕ) : Type 0 where
-  pub put : after ≡ put_at out at text
-  pub next : n ≡ at + length text
 
 -- a text written at the start of the output: its length, or a refusal where the output is shorter
 abbrev pub write_answer : List ℕ → List ℕ → Result ℕ Refusal

@@ -1,5 +1,5 @@
 -- The text of a record, by its table of fields.
-use Rattle.std.specs.Prelude.{ℕ, List, [], ◌∷◌, ◌++◌, ℤ}
+use Rattle.std.specs.Prelude.{ℕ, List, [], ◌∷◌, ◌++◌, ℤ, Some, None, Option}
 use Rattle.model.specs.Names.{name_text}
 use Rattle.numbers.specs.Texts.{text_of, right_text, two_digits}
 use Rattle.records.specs.declared.field.Form.{Form}
@@ -52,3 +52,12 @@ type_text rec.Trailer = 57 ∷ 57 ∷ []
 -- the line of a record
 unfoldable pub record_text : Record → List Value → List ℕ
 record_text t vs = type_text t ++ (fields_text (fields_of t) vs ++ (10 ∷ []))
+
+-- a text that may be absent, and how long it is at most
+abbrev pub text_if : {A : Type 0} → (A → List ℕ) → Option A → List ℕ
+text_if text None = []
+text_if text (Some x) = text x
+
+abbrev pub most_if : {A : Type 0} → (A → ℕ) → Option A → ℕ
+most_if most None = 0
+most_if most (Some x) = most x

@@ -1,10 +1,9 @@
 -- The values of each record.
-use Rattle.std.specs.Prelude.{ℕ, ◌/◌, ◌%◌, List, [], ◌∷◌, ◌++◌, ℤ, pos, negsuc, Some, None, Option, slice_index_or}
+use Rattle.std.specs.Prelude.{ℕ, ◌/◌, ◌%◌, List, [], ◌∷◌, ◌++◌, pos, Some, None, Option, slice_index_or}
 use Rattle.calendar.specs.Dates.{date_of}
 use Rattle.cells.specs.declared.summary.DaySecond.{DaySecond}
 use Rattle.cells.specs.declared.summary.Cells.{Cells}
-use Rattle.model.specs.declared.LeapFlag.{LeapFlag}
-use Rattle.model.specs.declared.LeapFlag.TheVariants.{Removed, NoLeap, Added}
+use Rattle.model.specs.Flags.{flag_number}
 use Rattle.model.specs.declared.Vector.{Vector}
 use Rattle.model.specs.declared.Row.{Row}
 use Rattle.model.specs.declared.name.Name.{Name}
@@ -50,11 +49,6 @@ accuracy_values a = let at : ℕ → Value = λ i. Number (slice_index_or a.valu
 -- H5
 abbrev pub offset_values : Offset → List Value
 offset_values o = Number o.value ∷ []
-
-abbrev pub flag_number : LeapFlag → ℤ
-flag_number Removed = negsuc 0
-flag_number NoLeap = pos 0
-flag_number Added = pos 1
 
 -- 10: direction 0, the instant, the leap flag and the coordinates
 abbrev pub position_values : Row → List Value

@@ -1,11 +1,10 @@
 //! The canonical file, its length, and the lines of one row.
-ghost use Rattle.std.specs.Prelude.{◌≡◌, length, Some};
+ghost use Rattle.std.specs.Prelude.{◌≡◌, ◌+◌, ◌*◌, ◌≤◌, length, Some};
 ghost use Rattle.writing.specs.Places.{write_answer, after_write};
-ghost use Rattle.writing.specs.Files.{row_text, file_text, canonical, InCalendar};
+ghost use Rattle.writing.specs.Files.{row_text, file_text, canonical};
 
-use crate::header::{header_len, put_header};
-use crate::record::{put_record, record_len};
-use crate::rows::{put_row, put_rows, row_len, rows_len};
+use crate::output::Output;
+use crate::text::{Text, measure, write};
 use cells::summary::Cells;
 use cells::summary::running::cells_of;
 use model::Row;
@@ -13,12 +12,37 @@ use model::header::Header;
 use records::record::Record;
 use refusal::Refusal;
 
-fn text_len(header: &Header, cells: &Cells, rows: &[Row]) -> u128
-    requires { InCalendar cells.now }
-    ensures { result ≡ length (file_text (Some cells.now) header.now rows.now) }
+/// What a file is written of.
+#[derive(Drop)]
+struct File<'f> {
+    header: &'f Header,
+    cells: Cells,
+    rows: &'f [Row],
+}
+
+impl Text for File<'_> {
+    ghost text = { λ f. file_text (Some f.cells) f.header.now f.rows.now };
+
+    ghost most = { λ f. 42000 + 14000 * length f.rows.now };
+
+    fn put(&self, out: &mut Output) {
+        out.put_header(self.header, &self.cells);
+        out.put_rows(self.rows);
+        out.put_record(Record::Trailer, &[]);
+    }
+}
+
+/// The file of these rows; none without rows.
+fn file_of<'f>(header: &'f Header, rows: &'f [Row]) -> Option<File<'f>>
+    ensures text { ⟦<Option<File<'static>> as Text>⟧.text result ≡ canonical header.now rows.now }
+    ensures most { ⟦<Option<File<'static>> as Text>⟧.most result ≤ 42000 + 14000 * length rows.now }
 {
-    let rest = header_len(header, cells) + record_len(Record::Trailer, &[]);
-    rest as u128 + rows_len(rows)
+    let cells = cells_of(rows)?;
+    Some(File {
+        header,
+        cells,
+        rows,
+    })
 }
 
 /// How long the canonical file is; 0 without rows. A `u128`, since the file of as many rows as a slice may have need not fit
@@ -26,10 +50,7 @@ fn text_len(header: &Header, cells: &Cells, rows: &[Row]) -> u128
 pub fn file_len(header: &Header, rows: &[Row]) -> u128
     ensures { result ≡ length (canonical header.now rows.now) }
 {
-    match cells_of(rows) {
-        Some(cells) => text_len(header, &cells, rows),
-        None => 0,
-    }
+    measure(&file_of(header, rows))
 }
 
 /// Writes the canonical file at the start of the output, and answers its length; 33 where the output is shorter, which is
@@ -38,15 +59,7 @@ pub fn write_file(header: &Header, rows: &[Row], out: &mut [u8]) -> Result<usize
     ensures answer { result ≡ write_answer (canonical header.now rows.now) out.old }
     ensures after { out.new ≡ after_write (canonical header.now rows.now) out.old }
 {
-    let Some(cells) = cells_of(rows) else {
-        return Ok(0);
-    };
-    if text_len(header, &cells, rows) > out.len() as u128 {
-        return Err(Refusal::OutputTooShort);
-    }
-    let body = put_header(out, 0, header, &cells);
-    let end = put_rows(out, body, rows);
-    Ok(put_record(out, end, Record::Trailer, &[]))
+    write(&file_of(header, rows), out)
 }
 
 /// Writes the lines of a row at the start of the output, and answers their length; 33 where the output is shorter, which is
@@ -55,8 +68,5 @@ pub fn write_row(row: &Row, out: &mut [u8]) -> Result<usize, Refusal>
     ensures answer { result ≡ write_answer (row_text row.now) out.old }
     ensures after { out.new ≡ after_write (row_text row.now) out.old }
 {
-    if row_len(row) > out.len() {
-        return Err(Refusal::OutputTooShort);
-    }
-    Ok(put_row(out, 0, row))
+    write(row, out)
 }

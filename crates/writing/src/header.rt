@@ -1,100 +1,60 @@
 //! The lines of the header.
-ghost use Rattle.std.specs.Prelude.{◌≡◌, ◌+◌, ◌≤◌, length};
-ghost use Rattle.records.specs.declared.record.Record.TheVariants as rec;
-ghost use Rattle.writing.specs.Places.{Put};
-ghost use Rattle.writing.specs.Texts.{record_text};
-ghost use Rattle.writing.specs.Values.{origin_values};
-ghost use Rattle.writing.specs.Files.{accuracy_text, offset_text, header_text, InCalendar};
+ghost use Rattle.writing.specs.Outputs.{Puts};
+ghost use Rattle.writing.specs.Files.{origin_line, accuracy_line, offset_line, header_text};
 
-use crate::record::{put_record, record_len};
+use crate::output::Output;
+use crate::text::Text;
 use crate::values::{accuracy_values, offset_values, origin_values, satellite_values};
 use cells::summary::Cells;
 use model::header::{Accuracy, Header, Offset, Origin};
 use records::record::Record;
 
-fn origin_len(origin: &Origin) -> usize
-    ensures is { result ≡ length (record_text rec.H1 (origin_values origin.now)) }
-    ensures small { result ≤ 7000 }
-{
-    let (values, count) = origin_values(origin);
-    record_len(Record::H1, &values[0..count])
-}
+/// H1.
+impl Text for Origin {
+    ghost text = { origin_line };
 
-fn accuracy_len(accuracy: Option<Accuracy>) -> usize
-    ensures is { result ≡ length (accuracy_text accuracy) }
-    ensures small { result ≤ 7000 }
-{
-    match accuracy {
-        Some(values) => record_len(Record::H3, &accuracy_values(values)),
-        None => 0,
+    ghost most = { λ _. 7000 };
+
+    fn put(&self, out: &mut Output) {
+        let values = origin_values(self);
+        match self.notes {
+            Some(_) => out.put_record(Record::H1, &values),
+            None => out.put_record(Record::H1, &values[..10]),
+        }
     }
 }
 
-fn offset_len(offset: Option<Offset>) -> usize
-    ensures is { result ≡ length (offset_text offset) }
-    ensures small { result ≤ 7000 }
-{
-    match offset {
-        Some(value) => record_len(Record::H5, &offset_values(value)),
-        None => 0,
+/// H3.
+impl Text for Accuracy {
+    ghost text = { accuracy_line };
+
+    ghost most = { λ _. 7000 };
+
+    fn put(&self, out: &mut Output) {
+        out.put_record(Record::H3, &accuracy_values(*self));
     }
 }
 
-/// How long the header's lines are. (Inner: the cells are in the calendar.)
-pub fn header_len(header: &Header, cells: &Cells) -> usize
-    requires { InCalendar cells.now }
-    ensures is { result ≡ length (header_text header.now cells.now) }
-    ensures small { result ≤ 35000 }
-{
-    let satellite = satellite_values(&header.satellite, cells);
-    let must = origin_len(&header.origin)
-        + record_len(Record::H2, &satellite)
-        + record_len(Record::H9, &[]);
-    must + accuracy_len(header.accuracy) + offset_len(header.offset)
-}
+/// H5.
+impl Text for Offset {
+    ghost text = { offset_line };
 
-fn put_origin(out: &mut [u8], at: usize, origin: &Origin) -> usize
-    requires { at + length (record_text rec.H1 (origin_values origin.now)) ≤ length out.old }
-    ensures { Put out.old at (record_text rec.H1 (origin_values origin.now)) out.new result }
-{
-    let (values, count) = origin_values(origin);
-    put_record(out, at, Record::H1, &values[0..count])
-}
+    ghost most = { λ _. 7000 };
 
-fn put_accuracy(out: &mut [u8], at: usize, accuracy: Option<Accuracy>) -> usize
-    requires { at + length (accuracy_text accuracy) ≤ length out.old }
-    ensures { Put out.old at (accuracy_text accuracy) out.new result }
-{
-    match accuracy {
-        Some(values) => put_record(out, at, Record::H3, &accuracy_values(values)),
-        None => at,
+    fn put(&self, out: &mut Output) {
+        out.put_record(Record::H5, &offset_values(*self));
     }
 }
 
-fn put_offset(out: &mut [u8], at: usize, offset: Option<Offset>) -> usize
-    requires { at + length (offset_text offset) ≤ length out.old }
-    ensures { Put out.old at (offset_text offset) out.new result }
-{
-    match offset {
-        Some(value) => put_record(out, at, Record::H5, &offset_values(value)),
-        None => at,
+impl Output<'_> {
+    /// Adds the header's lines.
+    pub fn put_header(&mut self, header: &Header, cells: &Cells)
+        ensures { Puts 35000 self.old (header_text header.now cells.now) self.new }
+    {
+        header.origin.put(self);
+        self.put_record(Record::H2, &satellite_values(&header.satellite, cells));
+        header.accuracy.put(self);
+        header.offset.put(self);
+        self.put_record(Record::H9, &[]);
     }
-}
-
-/// Writes the header's lines, and answers where the next begins. (Inner: the output has room for them, and the cells are in
-/// the calendar.)
-pub fn put_header(out: &mut [u8], at: usize, header: &Header, cells: &Cells) -> usize
-    requires { (InCalendar cells.now) × (at + length (header_text header.now cells.now) ≤ length out.old) }
-    ensures { Put out.old at (header_text header.now cells.now) out.new result }
-{
-    let satellite = put_origin(out, at, &header.origin);
-    let accuracy = put_record(
-        out,
-        satellite,
-        Record::H2,
-        &satellite_values(&header.satellite, cells),
-    );
-    let offset = put_accuracy(out, accuracy, header.accuracy);
-    let end = put_offset(out, offset, header.offset);
-    put_record(out, end, Record::H9, &[])
 }

@@ -4,7 +4,8 @@
 mod fields;
 pub mod file;
 mod header;
-mod place;
+mod output;
 mod record;
 mod rows;
+mod text;
 mod values;

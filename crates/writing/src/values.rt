@@ -1,32 +1,27 @@
 //! The values of each record.
-ghost use Rattle.std.specs.Prelude.{◌≡◌, ◌≤◌, true, take};
-ghost use Rattle.calendar.specs.Dates.{date_of, day_exists};
-ghost use Rattle.writing.specs.Values.{whole as wholeValue, origin_values, time_values, satellite_values, accuracy_values, offset_values, flag_number, position_values, velocity_values};
-ghost use Rattle.writing.specs.Files.{InCalendar};
+ghost use Rattle.std.specs.Prelude.{◌≡◌, true, take, MatchOption};
+ghost use Rattle.calendar.specs.Dates.{day_exists};
+ghost use Rattle.writing.specs.Values.{whole as wholeValue, origin_values, time_values, satellite_values, accuracy_values, offset_values, position_values, velocity_values};
 
 use calendar::date::Date;
 use cells::summary::{Cells, DaySecond};
 use model::header::{Accuracy, Offset, Origin, Satellite};
 use model::name::Name;
-use model::{LeapFlag, Row, Vector};
+use model::{Row, Vector};
 use records::field::Value;
 
+// Kept: functions here and below, since neither type of a From would be of this crate.
 fn whole(n: u32) -> Value
     ensures { result ≡ wholeValue n }
 {
     Value::Number(i64::from(n))
 }
 
-/// What H1 holds, and how many values that is: the last, the notes, may be absent.
-pub fn origin_values(origin: &Origin) -> ([Value; 11], usize)
-    ensures is { take result.1 result.0 ≡ origin_values origin.now }
-    ensures inside { result.1 ≤ 11 }
+/// What H1 holds. (Inner: the last, the notes, is no part of the line where there are none.)
+pub fn origin_values(origin: &Origin) -> [Value; 11]
+    ensures { MatchOption origin.now.notes (take 10 result ≡ origin_values origin.now) (λ _. result ≡ origin_values origin.now) }
 {
-    let (notes, count) = match origin.notes {
-        Some(name) => (Value::Text(name), 11),
-        None => (whole(0), 10),
-    };
-    let values = [
+    [
         Value::Text(Name::of(b"CPF")),
         whole(2),
         Value::Text(origin.source),
@@ -37,19 +32,8 @@ pub fn origin_values(origin: &Origin) -> ([Value; 11], usize)
         Value::Number(origin.sequence),
         Value::Number(origin.sub_daily),
         Value::Text(origin.target),
-        notes,
-    ];
-    (values, count)
-}
-
-fn date_of(day: u32) -> Date
-    requires { day_exists day ≡ true }
-    ensures { result ≡ date_of day }
-{
-    match Date::of_day(day) {
-        Some(date) => date,
-        None => unreachable(),
-    }
+        origin.notes.map_or(whole(0), Value::Text),
+    ]
 }
 
 /// Year, month, day, hour, minute and second.
@@ -57,7 +41,7 @@ fn time_values(time: DaySecond) -> [Value; 6]
     requires { day_exists time.day ≡ true }
     ensures { result ≡ time_values time }
 {
-    let date = date_of(time.day);
+    let date = Date::of_day(time.day).unwrap();
     [
         whole(date.year),
         whole(date.month),
@@ -68,9 +52,8 @@ fn time_values(time: DaySecond) -> [Value; 6]
     ]
 }
 
-/// What H2 holds. (Inner: the cells are in the calendar.)
+/// What H2 holds.
 pub fn satellite_values(satellite: &Satellite, cells: &Cells) -> [Value; 22]
-    requires { InCalendar cells.now }
     ensures { result ≡ satellite_values satellite.now cells.now }
 {
     let start = time_values(cells.start);
@@ -105,18 +88,7 @@ pub fn satellite_values(satellite: &Satellite, cells: &Cells) -> [Value; 22]
 pub fn accuracy_values(accuracy: Accuracy) -> [Value; 9]
     ensures { result ≡ accuracy_values accuracy }
 {
-    let values = accuracy.values;
-    [
-        Value::Number(values[0]),
-        Value::Number(values[1]),
-        Value::Number(values[2]),
-        Value::Number(values[3]),
-        Value::Number(values[4]),
-        Value::Number(values[5]),
-        Value::Number(values[6]),
-        Value::Number(values[7]),
-        Value::Number(values[8]),
-    ]
+    accuracy.values.map(Value::Number)
 }
 
 /// What H5 holds.
@@ -124,16 +96,6 @@ pub fn offset_values(offset: Offset) -> [Value; 1]
     ensures { result ≡ offset_values offset }
 {
     [Value::Number(offset.value)]
-}
-
-fn flag_number(flag: LeapFlag) -> i64
-    ensures { result ≡ flag_number flag }
-{
-    match flag {
-        LeapFlag::Removed => -1,
-        LeapFlag::NoLeap => 0,
-        LeapFlag::Added => 1,
-    }
 }
 
 /// What a position record holds.
@@ -144,7 +106,7 @@ pub fn position_values(row: &Row) -> [Value; 7]
         whole(0),
         whole(row.at.day),
         Value::Number(row.at.micros as i64),
-        Value::Number(flag_number(row.flag)),
+        Value::Number(i64::from(row.flag)),
         Value::Number(row.position.x),
         Value::Number(row.position.y),
         Value::Number(row.position.z),
