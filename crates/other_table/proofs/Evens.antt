@@ -5,6 +5,7 @@ use Rattle.calendar.specs.declared.instant.Instant.{Instant}
 use Rattle.calendar.specs.Instants.{moment, in_calendar, instant_of, instant_if}
 use Rattle.calendar.proofs.Moments.{in_calendar_lem, instant_of_pair}
 use Rattle.model.specs.declared.Row.{Row}
+use Rattle.model.specs.declared.Vector.{Vector}
 use Rattle.model.specs.declared.LeapFlag.TheVariants.{NoLeap}
 use Rattle.tables.specs.Lines.{place, next_after, ascends}
 use Rattle.other_table.specs.EvenRows.{row_at, rows_from}
@@ -45,19 +46,24 @@ ascends_from m step (suc n) l s h =
 pub within : (m step n i : ℕ) → i < n → m + n * step < 7609161600000000 → m + i * step < 7609161600000000
 within m step n i h l = let p : i * step ≤ n * step = mul-le-mul_right step (omega arith) in omega arith
 
--- what the code reads, from a number j that is the first moment
-pub read_err : (m j i step n : ℕ) (e : Refusal) → j ≡ m → i < n → 3506716800000000 ≤ m → m + n * step < 7609161600000000
-    → Err e ≡ instant_if ((j + i * step) / 86400000000) ((j + i * step) % 86400000000) → ⊥
-read_err m j i step n e q h l b r =
+-- what the code reads
+pub read_err : (m i step n : ℕ) (e : Refusal) → i < n → 3506716800000000 ≤ m → m + n * step < 7609161600000000
+    → Err e ≡ instant_if ((m + i * step) / 86400000000) ((m + i * step) % 86400000000) → ⊥
+read_err m i step n e h l b r =
     let w = within m step n i h b in
-    let t = inside (j + i * step) (omega arith) (omega arith) in
-    let z : ◌≡◌ {A = ℕ} 0 1 = let k = rw t at r in cc in omega arith
+    let t = inside (m + i * step) (omega arith) (omega arith) in
+    let k = rw t at r in cc
 
-pub read_ok : (m j i step n : ℕ) (at : Instant) → j ≡ m → i < n → 3506716800000000 ≤ m → m + n * step < 7609161600000000
-    → Ok at ≡ instant_if ((j + i * step) / 86400000000) ((j + i * step) % 86400000000)
-    → ◌≡◌ {A = Result Row Refusal} (Ok (record { at = at; flag = NoLeap; position = record { x = pos 0; y = pos 0; z = pos 0 }; velocity = None })) (place (rows_from m step n) i)
-read_ok m j i step n at q h l b r =
+zeros : (v : Vector) → v.x ≡ pos 0 → v.y ≡ pos 0 → v.z ≡ pos 0 → v ≡ record { x = pos 0; y = pos 0; z = pos 0 }
+zeros v a b c =
+    let e : ◌≡◌ {A = Vector} (record { x = v.x; y = v.y; z = v.z }) (record { x = pos 0; y = pos 0; z = pos 0 }) = rw (a, b, c) refl in
+    e
+
+pub read_ok : (m i step n : ℕ) (at : Instant) (blank : Row) → (blank.flag ≡ NoLeap) × (blank.position.x ≡ pos 0) × (blank.position.y ≡ pos 0) × (blank.position.z ≡ pos 0) × (blank.velocity ≡ None) → i < n → 3506716800000000 ≤ m → m + n * step < 7609161600000000
+    → Ok at ≡ instant_if ((m + i * step) / 86400000000) ((m + i * step) % 86400000000)
+    → ◌≡◌ {A = Result Row Refusal} (Ok (record { at = at; flag = blank.flag; position = blank.position; velocity = blank.velocity })) (place (rows_from m step n) i)
+read_ok m i step n at blank z h l b r =
     let w = within m step n i h b in
-    let t = inside (j + i * step) (omega arith) (omega arith) in
-    let e : at ≡ instant_of ((j + i * step) / 86400000000) ((j + i * step) % 86400000000) = let k = rw t at r in cc in
-    rw (e, q) (place_from m step n i h)
+    let t = inside (m + i * step) (omega arith) (omega arith) in
+    let e : at ≡ instant_of ((m + i * step) / 86400000000) ((m + i * step) % 86400000000) = let k = rw t at r in cc in
+    rw (e, z.0, zeros blank.position z.1 z.2 z.3, z.4) (place_from m step n i h)

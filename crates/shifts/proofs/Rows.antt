@@ -11,6 +11,7 @@ use Rattle.tables.specs.declared.lines.RowAndEnds.{RowAndEnds}
 use Rattle.tables.specs.Ends.{EndsRead}
 use Rattle.tables.specs.Lines.{time_of, place, Ascending}
 use Rattle.tables.proofs.Places.{place_read, place_within, place_map, place_map_err}
+use Rattle.std.specs.Result.{result_unwrap_or}
 use Rattle.tables.proofs.Orders.{up_lt, up_le, same_length}
 use Rattle.shifts.specs.Shifts.{moved, stays, move_instant, move_row, move_row_if, read_stays, move_read, move_read_if, all_stay, shift_rows}
 
@@ -83,7 +84,7 @@ read_stays_lem s rs i read k =
 
 pub none_stay : (s : ℤ) (rs : List Row) (e : Refusal) → Err e ≡ place rs 0 → true ≡ all_stay s rs
 none_stay s [] e p = refl
-none_stay s (r ∷ rs) e p = let z : ◌≡◌ {A = ℕ} 0 1 = cc in absurd (omega arith)
+none_stay s (r ∷ rs) e p = absurd (cc)
 
 -- the shape of moved rows
 pub length_shifted : (s : ℤ) (rs : List Row) → length (shift_rows s rs) ≡ length rs
@@ -145,10 +146,10 @@ shift_zero rs = let h = zero_rows rs in rw h.0 h.1
 -- what the moves answer
 pub cond_ok : {X : Type 0} (b : Bool) (x y : X) (e : Refusal) → Ok x ≡ cond b (Ok y) (Err e) → (b ≡ true) × (x ≡ y)
 cond_ok true x y e h = (refl, cc)
-cond_ok false x y e h = let z : ◌≡◌ {A = ℕ} 0 1 = cc in absurd (omega arith)
+cond_ok false x y e h = absurd (cc)
 
 pub cond_err : {X : Type 0} (b : Bool) (y : X) (d e : Refusal) → Err d ≡ cond b (Ok y) (Err e) → (b ≡ false) × (d ≡ e)
-cond_err true y d e h = let z : ◌≡◌ {A = ℕ} 0 1 = cc in absurd (omega arith)
+cond_err true y d e h = absurd (cc)
 cond_err false y d e h = (refl, cc)
 
 pub row_moved : (s s' : ℤ) (r x : Row) → s' ≡ s → Ok x ≡ move_row_if s' r → (stays s r.at ≡ true) × (x ≡ move_row s r)
@@ -191,3 +192,9 @@ read_kept s s' rs i read d z k e =
     let f = cond_err (read_stays s read) (move_read s read) d _ (e ∙ ap (λ (v : ℤ). move_read_if v read) z) in
     let a : all_stay s rs ≡ false = sym (read_stays_lem s rs i read k) ∙ f.0 in
     rw a k
+
+-- what a table under a shift reads, where the rows may not be moved those that it is over
+pub read_shifted : (s s' : ℤ) (read got : RowAndEnds) (moved : Result RowAndEnds Refusal) → s' ≡ s → moved ≡ move_read_if s' read → got ≡ result_unwrap_or moved read
+    → (rs : List Row) (i : ℕ) → EndsRead rs i read → EndsRead (shift_rows s rs) i got
+read_shifted s s' read got (Ok x) z e g rs i k = rw g (read_moved s s' rs i read x z k e)
+read_shifted s s' read got (Err d) z e g rs i k = rw g (read_kept s s' rs i read d z k e)

@@ -1,20 +1,21 @@
-use Rattle.std.proofs.Common.{◌≡◌, ℕ, ◌+◌, ◌*◌, ◌<◌, Bool, true, false, cond, leb, List, [], ◌∷◌, map, ℤ, pos, negsuc, ◌+ℤ◌, nat_abs, Ok, Err, Result, sym, refl, ap, ◌∙◌, inl, inr, arith}
+use Rattle.std.proofs.Common.{◌≡◌, ℕ, suc, ◌+◌, ◌*◌, ◌-◌, ◌<◌, ◌≤◌, Bool, true, cond, leb, List, [], ◌∷◌, map, length, get_or, take, drop, ℤ, pos, negsuc, ◌+ℤ◌, nat_abs, Result, sym, refl, ap, ◌∙◌, inl, inr, arith}
 use lib.IntN.{+ℤ_assoc, +ℤ_idr}
 use lib.Signed.{le_z}
 use Rattle.std.proofs.lemmas.Int.{ints}
 use Rattle.std.proofs.lemmas.Bool.{and_parts, cases_Bool}
+use Rattle.std.proofs.lemmas.List.{length-map, take_all}
 use Rattle.refusal.specs.declared.Refusal.{Refusal}
-use Rattle.refusal.specs.declared.Refusal.TheVariants.{ShiftTooLarge}
 use Rattle.calendar.specs.declared.instant.Instant.{Instant}
 use Rattle.calendar.specs.Instants.{moment, instant_of}
 use Rattle.calendar.proofs.Moments.{instant_of_pair}
 use Rattle.model.specs.declared.Row.{Row}
 use Rattle.model.specs.declared.LeapFlag.{LeapFlag}
-use Rattle.tables.specs.Lines.{time_of, not_after}
+use Rattle.tables.specs.Lines.{time_of, not_after, Ascending}
+use Rattle.tables.proofs.Orders.{same_length}
 use Rattle.tables.specs.Windows.{flag_of, window_at, window_of, window_if}
-use Rattle.shifts.specs.Shifts.{moved, stays, move_row, all_stay, shift_rows, accepts, shift_answer}
+use Rattle.shifts.specs.Shifts.{moved, stays, move_row, all_stay, shift_rows, accepts}
 use Rattle.shifts.specs.Stacks.{piled, total, StackedShifts, all_accepted, sum_of, window_under, AnswersAsBelow}
-use Rattle.shifts.proofs.Rows.{stays_bounds, moment_moved, cond_ok, cond_err}
+use Rattle.shifts.proofs.Rows.{stays_bounds, moment_moved, length_shifted, up_shifted}
 
 -- how many instants are not after a moment that may lie outside the calendar, as one between two shifts may
 abbrev not_after_z : List Instant → ℤ → ℕ
@@ -93,37 +94,19 @@ pub accepted_answers : (ss : List ℤ) (rs : List Row) (day micros : ℕ) (answe
 accepted_answers ss rs day micros answer a h low c e =
     stack_answers ss rs day micros answer (a ∙ rw h) low c (e ∙ ap (λ (t : ℤ). pos (moment low) +ℤ t) (sym (total_accepted ss rs h)))
 
--- a shift that is accepted over rows qs, which are those of the table below, and one that is refused
-pub shift_taken : (s s' : ℤ) (rs qs after : List Row) (old new : ℤ) → s' ≡ s → qs ≡ rs → after ≡ qs → Ok tt ≡ shift_answer s' qs → new ≡ cond (accepts s' qs) s' old
-    → (accepts s rs ≡ true) × (shift_rows new after ≡ shift_rows s rs)
-shift_taken s s' rs qs after old new z q a e n =
-    let t = (cond_ok (accepts s' qs) tt tt ShiftTooLarge e).0 in
-    let v : new ≡ s = rw t at n ∙ z in
-    (ap (λ (x : ℤ). accepts x rs) (sym z) ∙ ap (accepts s') (sym q) ∙ t, ap (λ (x : ℤ). shift_rows x after) v ∙ ap (shift_rows s) (a ∙ q))
+-- the topmost shift s moves the rows under the others
+pub piled_step : (ss : List ℤ) (rs : List Row) (s : ℤ) → 1 ≤ length ss → s ≡ get_or ss 0 (pos 0) → shift_rows s (piled (take (length ss - 1) (drop 1 ss)) rs) ≡ piled ss rs
+piled_step [] rs s h e = absurd (omega arith)
+piled_step (x ∷ ss) rs s h e = λ i. shift_rows (e i) (piled (take_all (suc (length ss) - 1) ss (omega arith) i) rs)
 
-pub shift_refused : (s s' : ℤ) (rs qs : List Row) (e : Refusal) → s' ≡ s → qs ≡ rs → Err e ≡ shift_answer s' qs → (accepts s rs ≡ false) × (e ≡ ShiftTooLarge)
-shift_refused s s' rs qs e z q a = cond_err (accepts s rs) tt e ShiftTooLarge (a ∙ ap (λ (x : ℤ). shift_answer x qs) z ∙ ap (shift_answer s) q)
+-- the shape of rows under a stack
+length_piled : (ss : List ℤ) (rs : List Row) → length (piled ss rs) ≡ length rs
+length_piled [] rs = refl
+length_piled (s ∷ ss) rs = length_shifted s (piled ss rs) ∙ length_piled ss rs
 
--- the answer of a stack whose lowest shift is refused, and that of one whose lowest shift is accepted
-pub under_refused : (s : ℤ) (rs : List Row) (day micros : ℕ) (e : Refusal) → (accepts s rs ≡ false) × (e ≡ ShiftTooLarge) → Err e ≡ window_under (s ∷ []) rs day micros
-under_refused s rs day micros e q = rw (q.0, q.1)
+pub piled_count : (ss : List ℤ) (ts : List Instant) (rs : List Row) (n : ℕ) → ts ≡ map time_of rs → n ≡ length ts → n ≡ length (map time_of (piled ss rs))
+piled_count ss ts rs n e c = c ∙ same_length ts rs e ∙ sym (length-map (piled ss rs) time_of ∙ length_piled ss rs)
 
-pub under_one : (s : ℤ) (rs below : List Row) (day micros : ℕ) (answer : Result ℕ Refusal) → (accepts s rs ≡ true) × (below ≡ shift_rows s rs)
-    → answer ≡ window_if below day micros → answer ≡ window_under (s ∷ []) rs day micros
-under_one s rs below day micros answer q a = a ∙ ap (λ (l : List Row). window_if l day micros) q.1 ∙ rw q.0
-
-pub under_two_refused : (low high : ℤ) (rs : List Row) (day micros : ℕ) (e : Refusal) → (accepts low rs ≡ false) × (e ≡ ShiftTooLarge) → Err e ≡ window_under (high ∷ (low ∷ [])) rs day micros
-under_two_refused low high rs day micros e q = rw (q.0, q.1)
-
-pub under_two : (low high high' : ℤ) (rs below : List Row) (day micros : ℕ) (answer : Result ℕ Refusal) → high' ≡ high → (accepts low rs ≡ true) × (below ≡ shift_rows low rs)
-    → answer ≡ window_under (high' ∷ []) below day micros → answer ≡ window_under (high ∷ (low ∷ [])) rs day micros
-under_two low high high' rs below day micros answer z q a =
-    a ∙ ap (λ (h : ℤ). window_under (h ∷ []) below day micros) z ∙ ap (λ (l : List Row). window_under (high ∷ []) l day micros) q.1 ∙ rw q.0
-
-pub under_three_refused : (low middle high : ℤ) (rs : List Row) (day micros : ℕ) (e : Refusal) → (accepts low rs ≡ false) × (e ≡ ShiftTooLarge) → Err e ≡ window_under (high ∷ (middle ∷ (low ∷ []))) rs day micros
-under_three_refused low middle high rs day micros e q = rw (q.0, q.1)
-
-pub under_three : (low middle middle' high high' : ℤ) (rs below : List Row) (day micros : ℕ) (answer : Result ℕ Refusal) → middle' ≡ middle → high' ≡ high → (accepts low rs ≡ true) × (below ≡ shift_rows low rs)
-    → answer ≡ window_under (high' ∷ (middle' ∷ [])) below day micros → answer ≡ window_under (high ∷ (middle ∷ (low ∷ []))) rs day micros
-under_three low middle middle' high high' rs below day micros answer m z q a =
-    a ∙ (λ i. window_under (z i ∷ (m i ∷ [])) below day micros) ∙ ap (λ (l : List Row). window_under (high ∷ (middle ∷ [])) l day micros) q.1 ∙ rw q.0
+pub up_piled : (ss : List ℤ) (rs : List Row) → Ascending (map time_of rs) → Ascending (map time_of (piled ss rs))
+up_piled [] rs up = up
+up_piled (s ∷ ss) rs up = up_shifted s (piled ss rs) (up_piled ss rs up)

@@ -1,25 +1,23 @@
 //! Rows moved in time.
-ghost use Rattle.std.specs.Prelude.{◌≡◌, Err, MatchResult};
+ghost use Rattle.std.specs.Prelude.{◌≡◌, ℕ, List};
+ghost use Rattle.model.specs.declared.Row.{Row};
 ghost use Rattle.tables.specs.Ends.{EndsRead};
-ghost use Rattle.tables.specs.Lines.{place};
-ghost use Rattle.shifts.specs.Shifts.{move_row_if, move_read_if, all_stay, shift_rows};
+ghost use Rattle.shifts.specs.Shifts.{move_row_if, move_read_if, all_stay, accepts, shift_rows};
 
 use calendar::instant::Instant;
 use model::Row;
 use refusal::Refusal;
-use tables::lines::{PredictionTable, RowAndEnds, TimeLine};
+use tables::lines::{PredictionTable, RowAndEnds};
+
+/// The largest shift in either direction: a day.
+const LARGEST_SHIFT: u64 = 86_400_000_000;
 
 /// The row so many microseconds later; `OutsideCalendar` where it would leave the calendar.
 fn move_row(row: Row, shift: i64) -> Result<Row, Refusal>
     ensures { result ≡ move_row_if shift row }
 {
     let at = Instant::split(row.at.joined().saturating_add_signed(shift))?;
-    Ok(Row {
-        at,
-        flag: row.flag,
-        position: row.position,
-        velocity: row.velocity,
-    })
+    Ok(Row { at, ..row })
 }
 
 /// The three rows so many microseconds later, where all of them stay in the calendar.
@@ -33,28 +31,25 @@ fn move_read(read: RowAndEnds, shift: i64) -> Result<RowAndEnds, Refusal>
 }
 
 /// Whether every row stays in the calendar: in a table in order the first and the last decide.
-pub fn all_stay<T: PredictionTable>(below: &T, shift: i64) -> bool
+fn all_stay<T: PredictionTable>(below: &T, shift: i64) -> bool
     ensures { result ≡ all_stay shift (T.PredictionTable.rows below.now) }
 {
-    match below.row_and_ends(0) {
-        Ok(read) => move_read(read, shift).is_ok(),
-        Err(_) => true,
-    }
+    let Ok(read) = below.row_and_ends(0) else {
+        return true;
+    };
+    move_read(read, shift).is_ok()
 }
 
-/// What a shifted table reads: one call of the table below.
-pub fn shifted_read<T: PredictionTable>(
-    below: &T,
-    shift: i64,
-    i: usize,
-) -> Result<RowAndEnds, Refusal>
-    ensures { MatchResult result (λ read. EndsRead (shift_rows shift (T.PredictionTable.rows below.now)) i read) (λ e. Err e ≡ place (shift_rows shift (T.PredictionTable.rows below.now)) i) }
+/// Whether a table takes the shift: one of at most a day that keeps every row in the calendar.
+pub fn accepts<T: PredictionTable>(below: &T, shift: i64) -> bool
+    ensures { result ≡ accepts shift (T.PredictionTable.rows below.now) }
 {
-    match below.row_and_ends(i) {
-        Ok(read) => match move_read(read, shift) {
-            Ok(moved) => Ok(moved),
-            Err(_) => Ok(read),
-        },
-        Err(e) => Err(e),
-    }
+    shift.unsigned_abs() <= LARGEST_SHIFT && all_stay(below, shift)
+}
+
+/// What a table under a shift reads where the table below reads this.
+pub fn shifted_read(read: RowAndEnds, shift: i64) -> RowAndEnds
+    ensures { (rows : List Row) (i : ℕ) → EndsRead rows i read → EndsRead (shift_rows shift rows) i result }
+{
+    move_read(read, shift).unwrap_or(read)
 }

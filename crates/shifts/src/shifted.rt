@@ -3,14 +3,11 @@ ghost use Rattle.std.specs.Prelude.{◌≡◌, map, pos, if◌then◌else◌};
 ghost use Rattle.tables.specs.Lines.{time_of};
 ghost use Rattle.shifts.specs.Shifts.{shift_rows, accepts, shift_answer};
 
-use crate::moves::{all_stay, shifted_read};
+use crate::moves::{accepts, shifted_read};
 use calendar::instant::Instant;
 use model::Row;
 use refusal::Refusal;
 use tables::lines::{PredictionTable, RowAndEnds, TimeLine};
-
-/// The largest shift in either direction: a day.
-const LARGEST_SHIFT: u64 = 86_400_000_000;
 
 /// A prediction table with every instant moved by the same number of microseconds.
 #[derive(Drop)]
@@ -36,10 +33,7 @@ impl<'t, T: PredictionTable> Shifted<'t, T> {
         ensures below { self.new.below.now ≡ self.old.below.now }
         ensures shift { self.new.shift ≡ (if accepts micros (T.PredictionTable.rows self.old.below.now) then micros else self.old.shift) }
     {
-        if micros.unsigned_abs() > LARGEST_SHIFT {
-            return Err(Refusal::ShiftTooLarge);
-        }
-        if !all_stay(self.below, micros) {
+        if !accepts(self.below, micros) {
             return Err(Refusal::ShiftTooLarge);
         }
         self.shift = micros;
@@ -61,10 +55,7 @@ impl<'t, T: PredictionTable> TimeLine for Shifted<'t, T> {
     }
 
     fn instant(&self, i: usize) -> Result<Instant, Refusal> {
-        match shifted_read(self.below, self.shift, i) {
-            Ok(read) => Ok(read.row.at),
-            Err(e) => Err(e),
-        }
+        Ok(self.row_and_ends(i)?.row.at)
     }
 }
 
@@ -74,13 +65,10 @@ impl<'t, T: PredictionTable> PredictionTable for Shifted<'t, T> {
     fn by_rows(&self) {}
 
     fn row(&self, i: usize) -> Result<Row, Refusal> {
-        match shifted_read(self.below, self.shift, i) {
-            Ok(read) => Ok(read.row),
-            Err(e) => Err(e),
-        }
+        Ok(self.row_and_ends(i)?.row)
     }
 
     fn row_and_ends(&self, i: usize) -> Result<RowAndEnds, Refusal> {
-        shifted_read(self.below, self.shift, i)
+        Ok(shifted_read(self.below.row_and_ends(i)?, self.shift))
     }
 }

@@ -30,7 +30,7 @@ split_at m true i e q =
     let d = ap (λ (j : Instant). j.day) s ∙ p.0 in
     let u = ap (λ (j : Instant). j.micros) s ∙ p.1 in
     omega arith
-split_at m false i e q = let z : ◌≡◌ {A = ℕ} 0 1 = cc in absurd (omega arith)
+split_at m false i e q = absurd (cc)
 
 -- the instant of a moment is at that moment
 pub split_moment : (m : ℕ) (i : Instant) → Ok i ≡ instant_if (m / 86400000000) (m % 86400000000) → moment i ≡ m
@@ -44,8 +44,7 @@ split_first i e q =
     elim (cases_lt 3506716800000000 m) [
       | inl l ↦
           let c = in_calendar_lem ((m - 1) / 86400000000) ((m - 1) % 86400000000) (let x = b.1 in omega arith) (let x = b.1 in omega arith) (omega arith) in
-          let z : ◌≡◌ {A = ℕ} 0 1 = let r = rw c at q in cc in
-          absurd (omega arith)
+          let r = rw c at q in absurd (cc)
       | inr g ↦ g
     ]
 

@@ -1,13 +1,14 @@
-use Rattle.std.proofs.Common.{◌≡◌, ℕ, zero, suc, ◌+◌, ◌-◌, ◌<◌, Bool, true, not, ◌&&◌, eqb, List, [], ◌∷◌, map, length, get_or, take, drop, Ok, sym, refl, ap, ◌∙◌, arith}
+use Rattle.std.proofs.Common.{◌≡◌, ℕ, zero, suc, ◌+◌, ◌<◌, ◌≤◌, Bool, true, false, eqb, List, [], ◌∷◌, length, get_or, take, drop, Ok, Err, Result, sym, refl, ◌∙◌, arith}
+use Rattle.std.specs.List.{list_all, range_with_len}
 use Rattle.std.proofs.lemmas.Bool.{eqb-true, and_parts}
 use denote.Enum.Bare.{sameb}
-use Rattle.model.specs.declared.Row.{Row}
+use Rattle.refusal.specs.declared.Refusal.{Refusal}
 use Rattle.model.specs.contracts.LeapFlag.{the_type}
 use Rattle.model.specs.declared.LeapFlag.{LeapFlag}
 use Rattle.model.specs.declared.LeapFlag.TheVariants.{Removed, NoLeap, Added}
 use Rattle.tables.specs.Lines.{place}
-use Rattle.tables.specs.Windows.{flag_of, flag_place, all_flag, same_flags}
-use Rattle.tables.proofs.Places.{cut_more, place_map}
+use Rattle.tables.specs.Windows.{flag_place, all_flag, same_flags}
+use Rattle.tables.proofs.Places.{place_in, cut_more}
 
 pub flag_same : (f g : LeapFlag) → flag_place f ≡ flag_place g → f ≡ g
 flag_same Removed Removed e = refl
@@ -20,30 +21,36 @@ flag_same Added Removed e = absurd (omega arith)
 flag_same Added NoLeap e = absurd (omega arith)
 flag_same Added Added e = refl
 
--- what `!=` says of two flags
-flags_compared : (f g : LeapFlag) (differ : Bool) → differ ≡ not (sameb the_type f g) → eqb (flag_place f) (flag_place g) ≡ not differ
-flags_compared Removed Removed differ d = sym (ap not d)
-flags_compared Removed NoLeap differ d = sym (ap not d)
-flags_compared Removed Added differ d = sym (ap not d)
-flags_compared NoLeap Removed differ d = sym (ap not d)
-flags_compared NoLeap NoLeap differ d = sym (ap not d)
-flags_compared NoLeap Added differ d = sym (ap not d)
-flags_compared Added Removed differ d = sym (ap not d)
-flags_compared Added NoLeap differ d = sym (ap not d)
-flags_compared Added Added differ d = sym (ap not d)
+-- what `==` says of two flags
+flags_compared : (f g : LeapFlag) → sameb the_type f g ≡ eqb (flag_place f) (flag_place g)
+flags_compared Removed Removed = refl
+flags_compared Removed NoLeap = refl
+flags_compared Removed Added = refl
+flags_compared NoLeap Removed = refl
+flags_compared NoLeap NoLeap = refl
+flags_compared NoLeap Added = refl
+flags_compared Added Removed = refl
+flags_compared Added NoLeap = refl
+flags_compared Added Added = refl
 
--- one row more is looked at
-pub flags_more : (rs : List Row) (f : LeapFlag) (from k : ℕ) (r : Row) (differ : Bool) → Ok r ≡ place rs (from + k) → k < 10
-    → differ ≡ not (sameb the_type r.flag f)
-    → all_flag f (take (10 - k) (drop (from + k) (map flag_of rs))) ≡ (not differ && all_flag f (take (10 - (k + 1)) (drop (from + (k + 1)) (map flag_of rs))))
-flags_more rs f from k r differ p h d =
-    let n : 10 - k ≡ suc (10 - (k + 1)) = omega arith in
-    let a : from + (k + 1) ≡ from + k + 1 = omega arith in
-    rw (a, n, sym (flags_compared r.flag f differ d)) (ap (all_flag f) (cut_more (map flag_of rs) (from + k) (10 - (k + 1)) r.flag (place_map flag_of rs (from + k) r p)))
+-- whether what was read at a place is that flag
+abbrev pub is_flag : LeapFlag → Result LeapFlag Refusal → Bool
+is_flag f (Ok g) = eqb (flag_place g) (flag_place f)
+is_flag f (Err e) = false
 
--- the first row sets the flag
-pub flags_first : (rs : List Row) (from : ℕ) (r : Row) → Ok r ≡ place rs from → all_flag r.flag (take 9 (drop (from + 1) (map flag_of rs))) ≡ same_flags (take 10 (drop from (map flag_of rs)))
-flags_first rs from r p = sym (ap same_flags (cut_more (map flag_of rs) from 9 r.flag (place_map flag_of rs from r p)))
+pub flag_read : (r : Result LeapFlag Refusal) (f g : LeapFlag) (same : Bool) → Ok g ≡ r → same ≡ sameb the_type g f → same ≡ is_flag f r
+flag_read r f g same p d = rw (sym p, d) (flags_compared g f)
+
+next_flag : (fs : List LeapFlag) (f : LeapFlag) (n a : ℕ) (r : Result LeapFlag Refusal) → r ≡ place fs a → a + suc n ≤ length fs
+    → list_all (λ k. is_flag f (place fs k)) (range_with_len (a + 1) n) ≡ all_flag f (take n (drop (a + 1) fs))
+    → list_all (λ k. is_flag f (place fs k)) (range_with_len a (suc n)) ≡ all_flag f (take (suc n) (drop a fs))
+next_flag fs f n a (Ok g) p h e = rw (sym p, cut_more fs a n g p, e) refl
+next_flag fs f n a (Err e) p h i = let k = place_in fs a (Err e) p (omega arith) in absurd (cc)
+
+-- the flags from a place on, read one by one
+pub flags_in_turn : (fs : List LeapFlag) (f : LeapFlag) (n a : ℕ) → a + n ≤ length fs → list_all (λ k. is_flag f (place fs k)) (range_with_len a n) ≡ all_flag f (take n (drop a fs))
+flags_in_turn fs f zero a h = refl
+flags_in_turn fs f (suc n) a h = next_flag fs f n a (place fs a) refl h (flags_in_turn fs f n (a + 1) (omega arith))
 
 all_flag_at : (f : LeapFlag) (gs : List LeapFlag) → all_flag f gs ≡ true → (k : ℕ) (d : LeapFlag) → k < length gs → get_or gs k d ≡ f
 all_flag_at f [] h k d l = absurd (omega arith)

@@ -1,7 +1,7 @@
-use Rattle.std.proofs.Common.{◌≡◌, ℕ, ◌+◌, ◌-◌, ◌<◌, ◌≤◌, Bool, true, false, cond, ltb, List, map, length, get_or, take, drop, Ok, Err, sym, ap, ◌∙◌, inl, inr, arith}
+use Rattle.std.proofs.Common.{◌≡◌, ℕ, ◌+◌, ◌-◌, ◌<◌, ◌≤◌, true, false, ltb, List, map, length, get_or, take, drop, Ok, Err, sym, ap, ◌∙◌, inl, inr, arith}
 use Rattle.std.proofs.lemmas.List.{length-map, length-take-le, length-drop, get_or-map, get_or-take, get_or-drop}
-use Rattle.std.proofs.lemmas.Bool.{lt-ltb, le-ltb, ltb-false, cases_Bool}
-use Rattle.refusal.specs.declared.Refusal.TheVariants.{OutsideCalendar, WindowTooLate, WindowFlagsDiffer}
+use Rattle.std.proofs.lemmas.Bool.{ltb-false, cases_Bool}
+use Rattle.refusal.specs.declared.Refusal.TheVariants.{OutsideCalendar}
 use Rattle.calendar.specs.declared.instant.Instant.{Instant}
 use Rattle.calendar.specs.Instants.{moment, in_calendar, instant_of}
 use Rattle.model.specs.declared.Row.{Row}
@@ -9,34 +9,14 @@ use Rattle.model.specs.declared.LeapFlag.{LeapFlag}
 use Rattle.tables.specs.Lines.{time_of, not_after}
 use Rattle.tables.specs.Windows.{flag_of, same_flags, window_at, window_of, window_if}
 use Rattle.tables.proofs.Flags.{same_flags_at}
-use Rattle.tables.proofs.Orders.{same_length}
-
--- the outcomes of a window, one by one, for a table with instants ts and rows rs, of which the search counts j
-window_at_lem : (ts : List Instant) (rs : List Row) (at : Instant) (j : ℕ) → ts ≡ map time_of rs → j ≡ not_after ts (moment at) → window_of rs at ≡ window_at (map flag_of rs) j
-window_at_lem ts rs at j e q = ap (window_at (map flag_of rs)) (ap (λ (l : List Instant). not_after l (moment at)) (sym e) ∙ sym q)
-
-flags_length : (ts : List Instant) (rs : List Row) → ts ≡ map time_of rs → length (map flag_of rs) ≡ length ts
-flags_length ts rs e = length-map rs flag_of ∙ sym (same_length ts rs e)
-
-pub late_told : (ts : List Instant) (rs : List Row) (at : Instant) (j : ℕ) → ts ≡ map time_of rs → j ≡ not_after ts (moment at) → 5 ≤ j → length ts < j + 5
-    → Err WindowTooLate ≡ window_of rs at
-late_told ts rs at j e q h l =
-    let n = flags_length ts rs e in
-    sym (window_at_lem ts rs at j e q ∙ rw (le-ltb j 5 h, lt-ltb (length (map flag_of rs)) (j + 5) (omega arith)))
-
-pub flags_told : (ts : List Instant) (rs : List Row) (at : Instant) (j : ℕ) (same : Bool) → ts ≡ map time_of rs → j ≡ not_after ts (moment at) → 5 ≤ j → j + 5 ≤ length ts
-    → same ≡ same_flags (take 10 (drop (j - 5) (map flag_of rs))) → cond same (Ok (j - 5)) (Err WindowFlagsDiffer) ≡ window_of rs at
-flags_told ts rs at j same e q h l s =
-    let n = flags_length ts rs e in
-    sym (window_at_lem ts rs at j e q ∙ rw (le-ltb j 5 h, le-ltb (length (map flag_of rs)) (j + 5) (omega arith), sym s))
 
 -- an answer: ten rows stand there, and they have the same flag
 answer_at : (fs : List LeapFlag) (j f : ℕ) → window_at fs j ≡ Ok f → (f + 10 ≤ length fs) × (same_flags (take 10 (drop f fs)) ≡ true)
 answer_at fs j f e =
     elim (cases_Bool (ltb j 5)) [
-      | inl a ↦ let z : ◌≡◌ {A = ℕ} 0 1 = let q = rw a at e in cc in absurd (omega arith)
+      | inl a ↦ let q = rw a at e in absurd (cc)
       | inr a ↦ elim (cases_Bool (ltb (length fs) (j + 5))) [
-        | inl b ↦ let z : ◌≡◌ {A = ℕ} 0 1 = let q = rw (a, b) at e in cc in absurd (omega arith)
+        | inl b ↦ let q = rw (a, b) at e in absurd (cc)
         | inr b ↦ elim (cases_Bool (same_flags (take 10 (drop (j - 5) fs)))) [
           | inl s ↦
               let q = rw (a, b, s) at e in
@@ -44,7 +24,7 @@ answer_at fs j f e =
               let x = ltb-false j 5 a in
               let y = ltb-false (length fs) (j + 5) b in
               (omega arith, ap (λ (n : ℕ). same_flags (take 10 (drop n fs))) (sym v) ∙ s)
-          | inr s ↦ let z : ◌≡◌ {A = ℕ} 0 1 = let q = rw (a, b, s) at e in cc in absurd (omega arith)
+          | inr s ↦ let q = rw (a, b, s) at e in absurd (cc)
         ]
       ]
     ]
@@ -84,7 +64,7 @@ pub window_if_answer : (rs : List Row) (day micros f : ℕ) → window_if rs day
 window_if_answer rs day micros f e =
     elim (cases_Bool (in_calendar day micros)) [
       | inl t ↦ rw t at e
-      | inr n ↦ let z : ◌≡◌ {A = ℕ} 0 1 = let q = rw n at e in cc in absurd (omega arith)
+      | inr n ↦ let q = rw n at e in absurd (cc)
     ]
 
 pub window_if_fits : (rs : List Row) (day micros f : ℕ) → window_if rs day micros ≡ Ok f → f + 10 ≤ length rs

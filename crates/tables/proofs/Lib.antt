@@ -1,4 +1,5 @@
 pub mod Places
+pub mod Moments
 pub mod Orders
 pub mod Flags
 pub mod Laws

@@ -9,6 +9,9 @@ use calendar::instant::Instant;
 use model::Row;
 use refusal::Refusal;
 
+/// The most entries of a time line, and so the most rows of a table.
+pub use model::rows::MOST_ROWS;
+
 /// A row with the first and the last row of its table.
 #[derive(Clone, Copy)]
 pub struct RowAndEnds {
@@ -55,12 +58,8 @@ pub trait PredictionTable: TimeLine {
         self.in_order();
         self.by_rows();
         let row = self.row(i)?;
-        let Ok(first) = self.row(0) else {
-            unreachable()
-        };
-        let Ok(last) = self.row(self.count() - 1) else {
-            unreachable()
-        };
+        let first = self.row(0).unwrap();
+        let last = self.row(self.count() - 1).unwrap();
         Ok(RowAndEnds { row, first, last })
     }
 }

@@ -10,16 +10,14 @@ use calendar::instant::Instant;
 pub fn count_not_after<T: TimeLine>(t: &T, at: Instant) -> usize
     ensures { result ≡ not_after (T.TimeLine.instants t.now) (moment at) }
 {
+    // Kept: the halving by hand. A time line may compute its instants, so there is no slice to search; no other search is here.
     t.in_order();
-    let limit = at.joined();
     let mut low = 0;
     let mut high = t.count();
     while low < high {
         let middle = low + (high - low) / 2;
-        let Ok(here) = t.instant(middle) else {
-            unreachable()
-        };
-        if here.joined() <= limit {
+        let here = t.instant(middle).unwrap();
+        if here <= at {
             low = middle + 1;
         } else {
             high = middle;
@@ -32,6 +30,7 @@ pub fn count_not_after<T: TimeLine>(t: &T, at: Instant) -> usize
 pub fn count_before<T: TimeLine>(t: &T, at: Instant) -> usize
     ensures { result ≡ earlier (T.TimeLine.instants t.now) (moment at) }
 {
+    // Kept: a match. `map_or` was tried, and leaves one goal for both cases, which the check does not close.
     match Instant::split(at.joined() - 1) {
         Ok(previous) => count_not_after(t, previous),
         // nothing is before the first instant of the calendar

@@ -1,11 +1,21 @@
 //! The window of ten rows around an instant.
-ghost use Rattle.std.specs.Prelude.{◌≡◌, ◌+◌, ◌≤◌, map, length, take, drop};
+ghost use Rattle.std.specs.Prelude.{◌≡◌, ◌+◌, ◌<◌, ◌≤◌, map, length, take, drop, Ok};
+ghost use Rattle.tables.specs.Lines.{place};
 ghost use Rattle.tables.specs.Windows.{flag_of, same_flags, window_of, window_if};
 
-use crate::lines::{PredictionTable, TimeLine};
+use crate::lines::PredictionTable;
 use crate::search::count_not_after;
-use calendar::instant::Instant;
+use calendar::instant::{Instant, Timestamp};
+use model::LeapFlag;
 use refusal::Refusal;
+
+/// The leap flag of row `i`, which the table has.
+fn flag_at<T: PredictionTable>(t: &T, i: usize) -> LeapFlag
+    requires { i < length (T.PredictionTable.rows t.now) }
+    ensures { Ok result ≡ place (map flag_of (T.PredictionTable.rows t.now)) i }
+{
+    t.row(i).unwrap().flag
+}
 
 /// Whether the ten rows from `from` on, which the table has, have the same leap flag.
 fn same_flags<T: PredictionTable>(t: &T, from: usize) -> bool
@@ -14,18 +24,8 @@ fn same_flags<T: PredictionTable>(t: &T, from: usize) -> bool
 {
     t.in_order();
     t.by_rows();
-    let Ok(first) = t.row(from) else {
-        unreachable()
-    };
-    for k in 1..10usize {
-        let Ok(other) = t.row(from + k) else {
-            unreachable()
-        };
-        if other.flag != first.flag {
-            return false;
-        }
-    }
-    true
+    let first = flag_at(t, from);
+    (from + 1..from + 10).all(|i| flag_at(t, i) == first)
 }
 
 /// The window around an instant of the calendar.
@@ -48,10 +48,10 @@ pub fn window_at<T: PredictionTable>(t: &T, at: Instant) -> Result<usize, Refusa
     }
 }
 
-/// The number of the first row of the window around an instant, given as a day number and microseconds of the day: the
-/// last five rows not after it and the next five.
-pub fn window<T: PredictionTable>(t: &T, day: u32, micros: u64) -> Result<usize, Refusal>
-    ensures { result ≡ window_if (T.PredictionTable.rows t.now) day micros }
+/// The number of the first row of the window around an instant as it was handed in: the last five rows not after it and
+/// the next five.
+pub fn window<T: PredictionTable>(t: &T, at: Timestamp) -> Result<usize, Refusal>
+    ensures { result ≡ window_if (T.PredictionTable.rows t.now) at.day at.micros }
 {
-    window_at(t, Instant::new(day, micros)?)
+    window_at(t, at.try_into()?)
 }

@@ -1,58 +1,45 @@
 //! The table of even steps, as a time line and as a prediction table.
-ghost use Rattle.std.specs.Prelude.{◌≡◌, [], ◌∷◌, map, Ok, Err, MatchResult};
-ghost use Rattle.calendar.specs.Instants.{instant_of};
-ghost use Rattle.tables.specs.Lines.{time_of, place};
+ghost use Rattle.std.specs.Prelude.{◌≡◌, ◌+◌, ◌*◌, ◌/◌, ◌%◌, ◌≤◌, [], ◌∷◌, map, Ok, Err, MatchResult};
+ghost use Rattle.calendar.specs.Instants.{moment, instant_of, instant_if};
+ghost use Rattle.tables.specs.Lines.{time_of};
 ghost use Rattle.tables.specs.Windows.{window_if};
 ghost use Rattle.shifts.specs.Stacks.{window_under};
 ghost use Rattle.other_table.specs.EvenRows.{even_answer};
 ghost use Rattle.other_table.specs.Meaning.{even_rows};
 
 use crate::even_table::EvenTable;
-use calendar::instant::Instant;
-use model::{LeapFlag, Row, Vector};
+use calendar::instant::{Instant, Timestamp};
+use model::Row;
 use refusal::Refusal;
 use shifts::stacks::window_under;
-use tables::lines::{PredictionTable, TimeLine};
+use tables::lines::{MOST_ROWS, PredictionTable, TimeLine};
 use tables::windows::window;
 
+/// The instant `i` steps of so many seconds after the first; 29 outside the calendar. (Inner: a table has so many rows.)
+fn instant_at(first: Instant, seconds: u16, i: usize) -> Result<Instant, Refusal>
+    requires { i ≤ 8192 }
+    ensures { result ≡ instant_if ((moment first + i * (seconds * 1000000)) / 86400000000) ((moment first + i * (seconds * 1000000)) % 86400000000) }
+{
+    Instant::split(first.joined() + i as u64 * (u64::from(seconds) * 1_000_000))
+}
+
 impl EvenTable {
-    /// So many rows, so many seconds apart, from a day and microseconds of the day on.
-    pub fn new(day: u32, micros: u64, seconds: u16, count: usize) -> Result<EvenTable, Refusal>
-        ensures { MatchResult result (λ t. (Ok tt ≡ even_answer day micros seconds count) × (t.first ≡ instant_of day micros) × (t.seconds ≡ seconds) × (t.count ≡ count)) (λ e. Err e ≡ even_answer day micros seconds count) }
+    /// So many rows, so many seconds apart, from an instant on.
+    pub fn new(from: Timestamp, seconds: u16, count: usize) -> Result<EvenTable, Refusal>
+        ensures { MatchResult result (λ t. (Ok tt ≡ even_answer from.day from.micros seconds count) × (t.first ≡ instant_of from.day from.micros) × (t.seconds ≡ seconds) × (t.count ≡ count)) (λ e. Err e ≡ even_answer from.day from.micros seconds count) }
     {
-        let first = Instant::new(day, micros)?;
+        let first = Instant::try_from(from)?;
         if seconds == 0 {
             return Err(Refusal::NotAfter { line: 0 });
         }
-        if count > 8192 {
+        if count > MOST_ROWS {
             return Err(Refusal::TooManyRows { line: 0 });
         }
-        if first.joined() + count as u64 * (seconds as u64 * 1_000_000) >= 7_609_161_600_000_000 {
-            return Err(Refusal::OutsideCalendar);
-        }
+        instant_at(first, seconds, count)?;
         Ok(EvenTable {
             first,
             seconds,
             count,
-        })
-    }
-
-    fn read(&self, i: usize) -> Result<Row, Refusal>
-        ensures { result ≡ place (even_rows self.now) i }
-    {
-        if i >= self.count {
-            return Err(Refusal::NoSuchNumber);
-        }
-        let Ok(at) = Instant::split(
-            self.first.joined() + i as u64 * (self.seconds as u64 * 1_000_000),
-        ) else {
-            unreachable()
-        };
-        Ok(Row {
-            at,
-            flag: LeapFlag::NoLeap,
-            position: Vector { x: 0, y: 0, z: 0 },
-            velocity: None,
         })
     }
 }
@@ -67,7 +54,7 @@ impl TimeLine for EvenTable {
     }
 
     fn instant(&self, i: usize) -> Result<Instant, Refusal> {
-        Ok(self.read(i)?.at)
+        Ok(self.row(i)?.at)
     }
 }
 
@@ -77,20 +64,24 @@ impl PredictionTable for EvenTable {
     fn by_rows(&self) {}
 
     fn row(&self, i: usize) -> Result<Row, Refusal> {
-        self.read(i)
+        if i >= self.count {
+            return Err(Refusal::NoSuchNumber);
+        }
+        let at = instant_at(self.first, self.seconds, i)?;
+        Ok(Row { at, ..Row::blank() })
     }
 }
 
 /// The window in such a table.
-pub fn even_window(t: &EvenTable, day: u32, micros: u64) -> Result<usize, Refusal>
-    ensures { result ≡ window_if (even_rows t.now) day micros }
+pub fn even_window(t: &EvenTable, at: Timestamp) -> Result<usize, Refusal>
+    ensures { result ≡ window_if (even_rows t.now) at.day at.micros }
 {
-    window(t, day, micros)
+    window(t, at)
 }
 
 /// The window in such a table under a shift.
-pub fn even_window_under(t: &EvenTable, shift: i64, day: u32, micros: u64) -> Result<usize, Refusal>
-    ensures { result ≡ window_under (shift ∷ []) (even_rows t.now) day micros }
+pub fn even_window_under(t: &EvenTable, shift: i64, at: Timestamp) -> Result<usize, Refusal>
+    ensures { result ≡ window_under (shift ∷ []) (even_rows t.now) at.day at.micros }
 {
-    window_under(t, shift, day, micros)
+    window_under(t, shift, at)
 }

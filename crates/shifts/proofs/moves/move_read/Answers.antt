@@ -6,12 +6,6 @@ use Rattle.shifts.specs.Shifts.{stays}
 use Rattle.shifts.proofs.Rows.{row_moved, row_out, read_out, read_in}
 use Rattle.shifts.proofs.moves.move_read.Goals as goal
 
-pub returns-in_err-row : goal.returns-in_err-row
-returns-in_err-row c =
-    let p = err_from_is_err_and c.from_residual.result c.from_residual.ensures.1 in
-    let o = row_out c.args.shift _ c.args.read.row _ (to_z-of_z w64 c.args.shift c.ranges.shift) c.in_err-row.ensures in
-    rw (p.1, p.2) (read_out c.args.shift c.args.read _ (and_left (stays c.args.shift c.args.read.row.at) _ o.0) o.1)
-
 pub returns-in_err-first : goal.returns-in_err-first
 returns-in_err-first c =
     let p = err_from_is_err_and c.from_residual-in_err-first.result c.from_residual-in_err-first.ensures.1 in
