@@ -1,8 +1,5 @@
-ghost use Rattle.std.specs.Prelude.{◌≡◌, ◌≤◌, true, length};
-ghost use Rattle.tables.specs.Lines.{ascends};
-
-use model::Row;
 use model::header::Header;
+use tables::row_table::RowTable;
 
 pub mod calls;
 pub mod table;
@@ -12,7 +9,5 @@ pub mod table;
 pub struct ClosedSheet<'r> {
     /// None when no file was open.
     header: Option<Header>,
-    rows: &'r [Row],
-    ghost up: { ascends rows.now ≡ true },
-    ghost few: { length rows.now ≤ 8192 },
+    rows: RowTable<'r>,
 }

@@ -16,7 +16,8 @@ use Rattle.reading.specs.declared.stage.Stage.TheVariants as at
 use Rattle.reading.specs.declared.stage.Part.TheVariants.{Block}
 use Rattle.reading.specs.declared.part.RowPart.{RowPart}
 use Rattle.reading.specs.declared.part.RowPart.TheVariants as parts
-use Rattle.reading.specs.Builds.{row_of, velocity_of}
+use Rattle.records.specs.Builds.{velocity_of}
+use Rattle.reading.specs.Builds.{row_of}
 use Rattle.reading.specs.Order.{next_stage, rows_done}
 use Rattle.reading.specs.Ends.{end_refusal, end_refusal_of}
 use Rattle.reading.specs.Scans.{started, row_refusal, with_row, on_ok, taken_if, taken, at_stage, with_stage, content_step, by_stage, by_record, line_step}
@@ -24,7 +25,6 @@ use Rattle.reading.specs.Texts.{scan_end_by, on_scan, scan_lines, scan_from, sca
 use Rattle.reading.specs.Stores.{completed, with_part, position_part, velocity_part, part_by_record, part_by_type, rows_with, rows_on, rows_in}
 use Rattle.edits.specs.Checks.{none, moving, is_some}
 use Rattle.edits.specs.Stages.{moving_at}
-use Rattle.edits.proofs.FlagLaws.{never}
 
 -- the rows at the stages of a block
 data Stands : Stage → List Row → Type 0 where
@@ -35,23 +35,23 @@ data Stands : Stage → List Row → Type 0 where
   velocity : (rows : List Row) → none rows ≡ false → moving rows ≡ true → Stands at.Velocity rows
 
 -- what an accepted record of a type says of the rows
-abbrev PartIs : Record → RowPart → Type 0
-PartIs rec.H1 p = p ≡ parts.Nothing
-PartIs rec.H2 p = p ≡ parts.Nothing
-PartIs rec.H3 p = p ≡ parts.Nothing
-PartIs rec.H5 p = p ≡ parts.Nothing
-PartIs rec.H9 p = p ≡ parts.Nothing
-PartIs rec.Position p = (r : Row) × (is_some r.velocity ≡ false) × (p ≡ parts.Position r)
-PartIs rec.Velocity p = (v : Vector) × (p ≡ parts.Velocity v)
-PartIs rec.Comment p = p ≡ parts.Nothing
-PartIs rec.Trailer p = p ≡ parts.Nothing
+abbrev PartIs : Record → Option RowPart → Type 0
+PartIs rec.H1 p = p ≡ None
+PartIs rec.H2 p = p ≡ None
+PartIs rec.H3 p = p ≡ None
+PartIs rec.H5 p = p ≡ None
+PartIs rec.H9 p = p ≡ None
+PartIs rec.Position p = (r : Row) × (is_some r.velocity ≡ false) × (p ≡ Some (parts.Position r))
+PartIs rec.Velocity p = (v : Vector) × (p ≡ Some (parts.Velocity v))
+PartIs rec.Comment p = p ≡ None
+PartIs rec.Trailer p = p ≡ None
 
 position_is : (n : ℕ) (rest : List ℕ) (s v : Scan) (r : Result (List Value) Refusal) → r ≡ read_record n rec.Position rest → taken_if n s rec.Position r ≡ Ok v → PartIs rec.Position (part_by_record n rest rec.Position)
-position_is n rest s v (Err e) q h = never (cc)
+position_is n rest s v (Err e) q h = absurd (cc)
 position_is n rest s v (Ok vs) q h = (row_of vs, refl, ap position_part (sym q))
 
 velocity_is : (n : ℕ) (rest : List ℕ) (s v : Scan) (r : Result (List Value) Refusal) → r ≡ read_record n rec.Velocity rest → taken_if n s rec.Velocity r ≡ Ok v → PartIs rec.Velocity (part_by_record n rest rec.Velocity)
-velocity_is n rest s v (Err e) q h = never (cc)
+velocity_is n rest s v (Err e) q h = absurd (cc)
 velocity_is n rest s v (Ok vs) q h = (velocity_of vs, ap velocity_part (sym q))
 
 part_is : (n : ℕ) (rest : List ℕ) (s v : Scan) (t : Record) → content_step n s t rest ≡ Ok v → PartIs t (part_by_record n rest t)
@@ -71,7 +71,7 @@ push_some [] r = refl
 push_some (x ∷ rows) r = refl
 
 push_moving : (rows : List Row) (r : Row) → none rows ≡ false → moving (rows ++ (r ∷ [])) ≡ moving rows
-push_moving [] r h = never (cc)
+push_moving [] r h = absurd (cc)
 push_moving (x ∷ rows) r h = refl
 
 completed_some : (rows : List Row) (v : Vector) → none (completed rows v) ≡ none rows
@@ -80,7 +80,7 @@ completed_some (r ∷ []) v = refl
 completed_some (r ∷ (x ∷ rows)) v = refl
 
 completed_moving : (rows : List Row) (v : Vector) → none rows ≡ false → moving rows ≡ true → moving (completed rows v) ≡ true
-completed_moving [] v h m = never (cc)
+completed_moving [] v h m = absurd (cc)
 completed_moving (r ∷ []) v h m = refl
 completed_moving (r ∷ (x ∷ rows)) v h m = m
 
@@ -88,7 +88,7 @@ abbrev At : Option Stage → List Row → Type 0
 At None rows = Unit {0}
 At (Some st) rows = Stands st rows
 
-goes : (t : Record) {st : Stage} {rows : List Row} (p : RowPart) → Stands st rows → PartIs t p → At (next_stage Block st t) (with_part rows p)
+goes : (t : Record) {st : Stage} {rows : List Row} (p : Option RowPart) → Stands st rows → PartIs t p → At (next_stage Block st t) (with_part rows p)
 goes rec.H1 p start e = tt
 goes rec.H1 p (first q m) e = tt
 goes rec.H1 p (position rows a m) e = tt
@@ -142,7 +142,7 @@ record Reads (s : Scan) (rows : List Row) : Type 0 where
 
 -- a scan keeps its part
 row_part : (s v : Scan) (r : Row) (a : Result (Unit {0}) Refusal) → on_ok a (with_row s r) ≡ Ok v → v.part ≡ s.part
-row_part s v r (Err e) h = never (cc)
+row_part s v r (Err e) h = absurd (cc)
 row_part s v r (Ok u) h = let w : with_row s r ≡ v = cc in ap (λ x. x.part) (sym w)
 
 taken_part : (n : ℕ) (s v : Scan) (t : Record) (vs : List Value) → taken n s t vs ≡ Ok v → v.part ≡ s.part
@@ -157,7 +157,7 @@ taken_part n s v rec.Comment vs h = cc
 taken_part n s v rec.Trailer vs h = cc
 
 if_part : (n : ℕ) (s v : Scan) (t : Record) (r : Result (List Value) Refusal) → taken_if n s t r ≡ Ok v → v.part ≡ s.part
-if_part n s v t (Err e) h = never (cc)
+if_part n s v t (Err e) h = absurd (cc)
 if_part n s v t (Ok vs) h = taken_part n s v t vs h
 
 content_part : (n : ℕ) (s v : Scan) (t : Record) (r : Result (List Value) Refusal) (b : Bool) → cond b (Ok s) (taken_if n s t r) ≡ Ok v → v.part ≡ s.part
@@ -166,7 +166,7 @@ content_part n s v t r false h = if_part n s v t r h
 
 module _ (n : ℕ) (l : List ℕ) (s u : Scan) (rows : List Row) (i : Reads s rows) where
   at_reads : (t : Record) (st : Stage) (r : Result Scan Refusal) → r ≡ content_step n s t (drop 2 l) → Some st ≡ next_stage Block s.stage t → at_stage st r ≡ Ok u → Reads u (with_part rows (part_by_record n (drop 2 l) t))
-  at_reads t st (Err e) q place h = never (cc)
+  at_reads t st (Err e) q place h = absurd (cc)
   at_reads t st (Ok v) q place h =
       let w : with_stage st v ≡ u = cc in
       let part = content_part n s v t (read_record n t (drop 2 l)) (is_comment t) (sym q) in
@@ -175,11 +175,11 @@ module _ (n : ℕ) (l : List ℕ) (s u : Scan) (rows : List Row) (i : Reads s ro
       (record { block = part ∙ i.block; stands = subst (λ o. At o (with_part rows (part_by_record n (drop 2 l) t))) (sym place) after })
 
   place_reads : (t : Record) (o : Option Stage) → o ≡ next_stage Block s.stage t → by_stage n l s t o ≡ Ok u → Reads u (with_part rows (part_by_record n (drop 2 l) t))
-  place_reads t None place h = never (cc)
+  place_reads t None place h = absurd (cc)
   place_reads t (Some st) place h = at_reads t st (content_step n s t (drop 2 l)) refl place h
 
   record_reads : (o : Option Record) → by_record n l s o ≡ Ok u → Reads u (with_part rows (part_by_type n l o))
-  record_reads None h = never (cc)
+  record_reads None h = absurd (cc)
   record_reads (Some t) h = place_reads t (next_stage s.part s.stage t) (ap (λ p. next_stage p s.stage t) i.block) h
 
   line_reads : line_step n l s ≡ Ok u → Reads u (rows_with n rows l)
@@ -191,22 +191,22 @@ pub record Told (u : Scan) (rows : List Row) : Type 0 where
   pub moves : moving rows ≡ moving_at u.stage
 
 stands_told : {st : Stage} {rows : List Row} → Stands st rows → rows_done st ≡ true → (none rows ≡ false) × (moving rows ≡ moving_at st)
-stands_told start d = never (cc)
+stands_told start d = absurd (cc)
 stands_told (first r m) d = (refl, m)
 stands_told (position rows a m) d = (a, m)
-stands_told (awaits rows a m) d = never (cc)
+stands_told (awaits rows a m) d = absurd (cc)
 stands_told (velocity rows a m) d = (a, m)
 
 end_told : (s u : Scan) (n : ℕ) (rows : List Row) (o : Option Refusal) → Reads s rows → scan_end_by s n o ≡ Ok u → Told u rows
-end_told s u n rows (Some e) i h = never (cc)
+end_told s u n rows (Some e) i h = absurd (cc)
 end_told s u n rows None i h = by_end (end_refusal s n) refl h
   where
     ended : (b : Bool) → b ≡ rows_done s.stage → ◌≡◌ {A = Result (Unit {0}) Refusal} (cond b (Ok tt) (Err (OutOfPlace (n + 1)))) (Ok tt) → rows_done s.stage ≡ true
     ended true e k = sym e
-    ended false e k = never (cc)
+    ended false e k = absurd (cc)
 
     by_end : (a : Result (Unit {0}) Refusal) → a ≡ end_refusal s n → on_ok a s ≡ Ok u → Told u rows
-    by_end (Err e) q k = never (cc)
+    by_end (Err e) q k = absurd (cc)
     by_end (Ok x) q k =
         let w : s ≡ u = cc in
         let d = ended (rows_done s.stage) refl (sym (ap (λ p. end_refusal_of p s n) i.block) ∙ sym q) in
@@ -215,7 +215,7 @@ end_told s u n rows None i h = by_end (end_refusal s n) refl h
 
 on_told : (n : ℕ) (ls : List (List ℕ)) (e : Ending) (u : Scan) (P : Type 0) (r : Result Scan Refusal) → ((v : Scan) → r ≡ Ok v → scan_lines (n + 1) ls e v ≡ Ok u → P) → on_scan r (λ t. scan_lines (n + 1) ls e t) ≡ Ok u → P
 on_told n ls e u P (Ok v) h q = h v refl q
-on_told n ls e u P (Err x) h q = never (cc)
+on_told n ls e u P (Err x) h q = absurd (cc)
 
 lines_told : (n : ℕ) (ls : List (List ℕ)) (e : Ending) (s u : Scan) (rows : List Row) → Reads s rows → scan_lines n ls e s ≡ Ok u → Told u (rows_on n ls rows)
 lines_told n [] e s u rows i h = end_told s u n rows (ending_refusal (n + 1) e) i h
@@ -227,5 +227,5 @@ pub block_told : (bs : List ℕ) (u : Scan) → scan_of Block None bs ≡ Ok u �
 block_told bs u h = by (ltb 2097152 (length bs)) h
   where
     by : (b : Bool) → cond b (Err (TooLong 0)) (scan_from 0 (text_of bs) (started Block None)) ≡ Ok u → Told u (rows_in bs)
-    by true k = never (cc)
+    by true k = absurd (cc)
     by false k = lines_told 0 (text_of bs).lines (text_of bs).ending (started Block None) u [] (record { block = refl; stands = start }) k

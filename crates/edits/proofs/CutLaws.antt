@@ -13,7 +13,7 @@ use Rattle.edits.specs.declared.place.Place.{Place}
 use Rattle.edits.specs.Changes.{Change, before, behind, between}
 use Rattle.edits.specs.Checks.{rules, none, flags_stay, in_order, cut_rules, cut_of, cut_checks, joined}
 use Rattle.edits.specs.Places.{Ready, Decided}
-use Rattle.edits.proofs.FlagLaws.{never, flags_without}
+use Rattle.edits.proofs.FlagLaws.{flags_without}
 use Rattle.edits.proofs.RuleLaws.{accepts, refused_by, some_in, none_in}
 use Rattle.edits.proofs.Parts.{split, cut_ascends}
 use Rattle.edits.proofs.Placing.{Placed, placed, none_between}
@@ -82,7 +82,7 @@ module _ (hold x y : ℕ) (rows : List Row) (p : Place) (m : x ≤ y) (h : in_or
 
 -- instants of the calendar
 chosen : (day micros : ℕ) (b : Bool) (i : Instant) → b ≡ in_calendar day micros → Ok i ≡ cond b (Ok (instant_of day micros)) (Err OutsideCalendar) → (in_calendar day micros ≡ true) × (moment i ≡ joined day micros)
-chosen day micros false i e q = never (cc)
+chosen day micros false i e q = absurd (cc)
 chosen day micros true i e q =
     let s : i ≡ instant_of day micros = cc in
     let p = instant_of_pair day micros (sym e) in

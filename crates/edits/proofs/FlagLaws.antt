@@ -1,5 +1,5 @@
 -- Leap flags that stay, where rows are joined and where some are taken out.
-use Rattle.std.proofs.Common.{◌≡◌, ℕ, Bool, true, false, ◌&&◌, List, [], ◌∷◌, ◌++◌, take, drop, sym, refl, ap, ◌∙◌, arith}
+use Rattle.std.proofs.Common.{◌≡◌, ℕ, Bool, true, false, ◌&&◌, List, [], ◌∷◌, ◌++◌, take, drop, sym, refl, ap, ◌∙◌}
 use Rattle.std.proofs.lemmas.List.{take-append-drop}
 use Rattle.std.proofs.lemmas.Bool.{and_from, and_parts}
 use Rattle.model.specs.declared.LeapFlag.{LeapFlag}
@@ -10,9 +10,6 @@ use Rattle.cells.specs.declared.summary.Summary.{Summary}
 use Rattle.cells.specs.Cells.{extended, extended_by}
 use Rattle.edits.specs.Checks.{next_allowed, flags_stay}
 use Rattle.edits.specs.Places.{last_row}
-
-pub never : {P : Type 0} → ◌≡◌ {A = ℕ} 0 1 → P
-never z = absurd (omega arith)
 
 pub flag_by : (s : Summary) (r : Row) (rs : List Row) → s.flag ≡ r.flag → (extended_by s rs).flag ≡ (last_row r rs).flag
 flag_by s r [] e = e
@@ -53,10 +50,10 @@ flags_drop i rows h = (flags_parts (take i rows) (drop i rows) (ap flags_stay (t
 pub allows_on : (f g h : LeapFlag) → allows f g ≡ true → allows g h ≡ true → allows f h ≡ true
 allows_on NoLeap g h p q = refl
 allows_on Removed Removed h p q = q
-allows_on Removed NoLeap h p q = never (cc)
-allows_on Removed Added h p q = never (cc)
-allows_on Added Removed h p q = never (cc)
-allows_on Added NoLeap h p q = never (cc)
+allows_on Removed NoLeap h p q = absurd (cc)
+allows_on Removed Added h p q = absurd (cc)
+allows_on Added Removed h p q = absurd (cc)
+allows_on Added NoLeap h p q = absurd (cc)
 allows_on Added Added h p q = q
 
 -- a row taken out

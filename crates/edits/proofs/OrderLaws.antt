@@ -1,5 +1,5 @@
 -- The rows of an accepted text are in order: they ascend, and their leap flags stay.
-use Rattle.std.proofs.Common.{◌≡◌, ℕ, ◌+◌, ◌<◌, Bool, true, false, cond, ◌&&◌, ltb, leb, List, [], ◌∷◌, ◌++◌, length, Some, Ok, Err, Option, Result, sym, refl, ap, ◌∙◌, arith}
+use Rattle.std.proofs.Common.{◌≡◌, ℕ, ◌+◌, ◌<◌, Bool, true, false, cond, ◌&&◌, ltb, leb, List, [], ◌∷◌, ◌++◌, length, Some, Ok, Err, Option, Result, sym, refl, ap, ◌∙◌, arith, None}
 use Rattle.std.proofs.lemmas.Bool.{and_from, and_parts, leb-false, lt-ltb}
 use Rattle.refusal.specs.declared.Refusal.{Refusal}
 use Rattle.refusal.specs.declared.Refusal.TheVariants.{NotAfter, FlagChanges, TooLong}
@@ -22,7 +22,7 @@ use Rattle.reading.specs.Texts.{on_scan, scan_lines, scan_from, scan_of}
 use Rattle.reading.specs.Stores.{completed, with_part, part_of, rows_with, rows_on, rows_in}
 use Rattle.reading.proofs.TrackLaws.{Step, same, added, line_step_lem, Tracks, tracks_line}
 use Rattle.edits.specs.Checks.{next_allowed, flags_stay, in_order}
-use Rattle.edits.proofs.FlagLaws.{never, flag_by, flags_join}
+use Rattle.edits.proofs.FlagLaws.{flag_by, flags_join}
 
 -- a row after the last
 push_up : (x : Row) (xs : List Row) (r : Row) → ascends (x ∷ xs) ≡ true → moment (last_of x.at xs) < moment r.at → ascends (x ∷ (xs ++ (r ∷ []))) ≡ true
@@ -52,9 +52,9 @@ row_after n s r m e q = by_tests (leb (moment r.at) (moment m.last)) (allows m.f
   where
     by_tests : (a b : Bool) → a ≡ leb (moment r.at) (moment m.last) → b ≡ allows m.flag r.flag → cond a (Err (NotAfter n)) (cond b (room_refusal n s) (Err (FlagChanges n))) ≡ Ok tt
         → (moment m.last < moment r.at) × (allows m.flag r.flag ≡ true)
-    by_tests true b g h p = never (cc)
+    by_tests true b g h p = absurd (cc)
     by_tests false true g h p = (leb-false (moment r.at) (moment m.last) (sym g), sym h)
-    by_tests false false g h p = never (cc)
+    by_tests false false g h p = absurd (cc)
 
 added_in_order : (n : ℕ) (s : Scan) (rows : List Row) (r : Row) → s.summary ≡ summary_if rows → in_order rows ≡ true → row_refusal n s r ≡ Ok tt → in_order (rows ++ (r ∷ [])) ≡ true
 added_in_order n s [] r e u q = refl
@@ -66,19 +66,19 @@ added_in_order n s (x ∷ xs) r e u q =
     (push_up x xs r p.0 (let k = ap moment (last_by (cells.started x) xs) in let a = l.0 in omega arith))
     (flags_join (x ∷ xs) (r ∷ []) p.1 (ap (λ f. allows f r.flag) (sym (flag_by (cells.started x) x xs refl)) ∙ l.1) refl)
 
-part_in_order : (p : RowPart) (rows : List Row) → ((rows : List Row) → summary_if (with_part rows p) ≡ summary_if rows) → in_order rows ≡ true → in_order (with_part rows p) ≡ true
-part_in_order (parts.Position r) rows g u = never (let z = g [] in cc)
-part_in_order (parts.Velocity v) rows g u = (λ i. completed_up rows v i && completed_flags rows v i) ∙ u
-part_in_order parts.Nothing rows g u = u
+part_in_order : (p : Option RowPart) (rows : List Row) → ((rows : List Row) → summary_if (with_part rows p) ≡ summary_if rows) → in_order rows ≡ true → in_order (with_part rows p) ≡ true
+part_in_order (Some (parts.Position r)) rows g u = absurd (let z = g [] in cc)
+part_in_order (Some (parts.Velocity v)) rows g u = (λ i. completed_up rows v i && completed_flags rows v i) ∙ u
+part_in_order None rows g u = u
 
-step_in_order : (n : ℕ) (p : RowPart) (s u : Scan) (rows : List Row) → s.summary ≡ summary_if rows → in_order rows ≡ true → Step n p s u → in_order (with_part rows p) ≡ true
+step_in_order : (n : ℕ) (p : Option RowPart) (s u : Scan) (rows : List Row) → s.summary ≡ summary_if rows → in_order rows ≡ true → Step n p s u → in_order (with_part rows p) ≡ true
 step_in_order n p s u rows e h (same a b g) = part_in_order p rows g h
 step_in_order n p s u rows e h (added r a b c d) = ap (λ z. in_order (with_part rows z)) a ∙ added_in_order n s rows r e h b
 
 on_line_lem : (n : ℕ) (l : List ℕ) (ls : List (List ℕ)) (e : Ending) (s u : Scan) (rows : List Row) (r : Result Scan Refusal) → r ≡ line_step (n + 1) l s
     → ((v : Scan) → line_step (n + 1) l s ≡ Ok v → scan_lines (n + 1) ls e v ≡ Ok u → in_order (rows_on n (l ∷ ls) rows) ≡ true)
     → on_scan r (λ v. scan_lines (n + 1) ls e v) ≡ Ok u → in_order (rows_on n (l ∷ ls) rows) ≡ true
-on_line_lem n l ls e s u rows (Err x) k h p = never (cc)
+on_line_lem n l ls e s u rows (Err x) k h p = absurd (cc)
 on_line_lem n l ls e s u rows (Ok v) k h p = h v (sym k) p
 
 lines_in_order : (n : ℕ) (ls : List (List ℕ)) (e : Ending) (s u : Scan) (rows : List Row) (given : Option ℕ) → Tracks s rows given → in_order rows ≡ true → scan_lines n ls e s ≡ Ok u → in_order (rows_on n ls rows) ≡ true
@@ -94,8 +94,5 @@ text_in_order p room bs u q = long (ltb 2097152 (length bs)) q
     begun = record { summary = refl; room = refl; fits = λ k e. omega arith }
 
     long : (b : Bool) → cond b (Err (TooLong 0)) (scan_from 0 (text_of bs) (started p room)) ≡ Ok u → in_order (rows_in bs) ≡ true
-    long true h = never (cc)
+    long true h = absurd (cc)
     long false h = lines_in_order 0 (text_of bs).lines (text_of bs).ending (started p room) u [] room begun refl h
-
-pub text_up : (p : Part) (room : Option ℕ) (bs : List ℕ) (u : Scan) → scan_of p room bs ≡ Ok u → ascends (rows_in bs) ≡ true
-text_up p room bs u q = (and_parts (ascends (rows_in bs)) (flags_stay (rows_in bs)) (text_in_order p room bs u q)).0

@@ -1,6 +1,7 @@
 -- What a paste answers, by the place that was found.
-use Rattle.std.proofs.Common.{◌≡◌, ℕ, zero, suc, ◌+◌, ◌-◌, ◌<◌, ◌≤◌, min, Bool, true, false, not, ◌&&◌, ltb, List, [], ◌∷◌, ◌++◌, map, length, get_or, take, drop, Some, None, Ok, Err, sym, refl, ap, ◌∙◌, subst, arith}
-use Rattle.std.proofs.lemmas.List.{drop_more, drop_all}
+use Rattle.std.proofs.Common.{◌≡◌, ℕ, suc, ◌+◌, ◌-◌, ◌<◌, ◌≤◌, min, Bool, true, false, not, ◌&&◌, ltb, List, [], ◌∷◌, ◌++◌, map, length, take, drop, Some, None, Option, IsSome, Ok, Err, MatchOption, Bor, sym, refl, ap, ◌∙◌, subst, arith}
+use Rattle.std.specs.List.{slice_get}
+use Rattle.std.specs.Option.{option_copied}
 use Rattle.std.proofs.lemmas.Bool.{le-ltb, lt-ltb, and_from, and_parts}
 use Rattle.refusal.specs.declared.Refusal.TheVariants.{VelocitiesDiffer, TooManyRows, FlagChanges, TakenRowsExceed}
 use Rattle.calendar.specs.Instants.{moment}
@@ -23,7 +24,7 @@ use Rattle.edits.specs.Changes.{Change, first_moment, last_moment}
 use Rattle.edits.specs.Checks.{rules, none, flags_stay, in_order, moving, differ, paste_rules, paste_by, paste_of, paste_checks}
 use Rattle.edits.specs.Places.{Ready, last_row, last_allows, allows_first}
 use Rattle.edits.specs.Stages.{moving_at}
-use Rattle.edits.proofs.FlagLaws.{never, flag_by, seam, flags_append, flags_take, flags_drop}
+use Rattle.edits.proofs.FlagLaws.{flag_by, seam, flags_append, flags_take, flags_drop}
 use Rattle.edits.proofs.RuleLaws.{accepts, refused_by}
 use Rattle.edits.proofs.OrderLaws.{text_in_order}
 use Rattle.edits.proofs.BlockLaws.{block_told}
@@ -31,23 +32,24 @@ use Rattle.edits.proofs.Parts.{ordered_block, paste_ascends}
 use Rattle.edits.proofs.Placing.{Placed, placed}
 
 -- the flags next to a place
-pub first_allowed : (f : LeapFlag) (rows : List Row) (n : ℕ) (r : Row) → n < length rows → allows f (get_or rows n r).flag ≡ allows_first f (drop n rows)
-first_allowed f rows n r h = sym (ap (allows_first f) (drop_more rows n r h))
+last_read : (r : Row) (rs : List Row) → slice_get (r ∷ rs) (length rs) ≡ Some (last_row r rs)
+last_read r [] = refl
+last_read r (s ∷ rs) = last_read s rs
 
-pub none_first : (f : LeapFlag) (rows : List Row) (n : ℕ) → length rows ≤ n → true ≡ allows_first f (drop n rows)
-none_first f rows n h = sym (ap (allows_first f) (drop_all n rows h))
-
-last_taken : (x : Row) (xs : List Row) (k : ℕ) (d : Row) → k ≤ length xs → last_row x (take k xs) ≡ get_or (x ∷ xs) k d
-last_taken x xs zero d h = refl
-last_taken x [] (suc k) d h = absurd (omega arith)
-last_taken x (y ∷ xs) (suc k) d h = last_taken y xs k d (omega arith)
-
-pub last_allowed : (rows : List Row) (n : ℕ) (d : Row) (f : LeapFlag) → 0 < n → n ≤ length rows → allows (get_or rows (n - 1) d).flag f ≡ last_allows (take n rows) f
-last_allowed [] n d f p h = absurd (omega arith)
-last_allowed (x ∷ xs) zero d f p h = absurd (omega arith)
-last_allowed (x ∷ xs) (suc k) d f p h =
-    let e : suc k - 1 ≡ k = omega arith in
-    ap (λ i. allows (get_or (x ∷ xs) i d).flag f) e ∙ ap (λ (r : Row). allows r.flag f) (sym (last_taken x xs k d (omega arith)))
+-- what the last of some rows allows, read by `last` and `is_none_or`
+pub last_told : (rows : List Row) (f : LeapFlag) (lent : Option (Bor Row)) (b : Bool) {A : Type 0} {P : Bor Row → Type 0}
+    → option_copied lent ≡ slice_get rows (length rows - 1) → MatchOption lent A P → (A → b ≡ true) → ((x : Bor Row) → P x → b ≡ allows x.now.flag f) → b ≡ last_allows rows f
+last_told [] f None b e m n s = n m
+last_told [] f (Some x) b e m n s = absurd (cc)
+last_told (r ∷ rs) f None b e m n s =
+    let z : suc (length rs) - 1 ≡ length rs = omega arith in
+    let q : ◌≡◌ {A = Option Row} None (Some (last_row r rs)) = e ∙ ap (slice_get (r ∷ rs)) z ∙ last_read r rs in
+    absurd (cc)
+last_told (r ∷ rs) f (Some x) b e m n s =
+    let z : suc (length rs) - 1 ≡ length rs = omega arith in
+    let q : ◌≡◌ {A = Option Row} (Some x.now) (Some (last_row r rs)) = e ∙ ap (slice_get (r ∷ rs)) z ∙ last_read r rs in
+    let w : x.now ≡ last_row r rs = cc in
+    s x m ∙ ap (λ (y : Row). allows y.flag f) w
 
 -- what the summary of a block tells of its rows
 pub record Summed (block : List Row) (m : Summary) : Type 0 where
@@ -62,7 +64,7 @@ seam_first [] b bs = refl
 seam_first (x ∷ xs) b bs = refl
 
 seam_flag : (xs block ys : List Row) (f : LeapFlag) → first_flag_of block ≡ Some f → seam xs (block ++ ys) ≡ last_allows xs f
-seam_flag xs [] ys f e = never (cc)
+seam_flag xs [] ys f e = absurd (cc)
 seam_flag xs (b ∷ bs) ys f e =
     let g : b.flag ≡ f = cc in
     seam_first xs b (bs ++ ys) ∙ ap (last_allows xs) g
@@ -72,7 +74,7 @@ seam_last b bs [] f e = refl
 seam_last b bs (y ∷ ys) f e = ap (λ g. allows g y.flag) e
 
 pub summed : (block : List Row) (m : Summary) → Some m ≡ summary_if block → Summed block m
-summed [] m e = never (cc)
+summed [] m e = absurd (cc)
 summed (b ∷ bs) m e =
     let s : extended_by (cells.started b) bs ≡ m = cc in
     subst (Summed (b ∷ bs)) s
@@ -84,24 +86,28 @@ summed (b ∷ bs) m e =
       after_is = λ ys. seam_last b bs ys (extended_by (cells.started b) bs).flag (sym (flag_by (cells.started b) b bs refl));
     })
 
+-- what is not None is a value
+pub some_of : {X : Type 0} (o : Option X) → (o ≡ None → ⊥) → IsSome o
+some_of (Some x) h = refl
+some_of None h = absurd (h refl)
+
 -- a block has a row
 pub no_summary : (text : List ℕ) (u : Scan) → scan_of Block None text ≡ Ok u → u.summary ≡ None → ⊥
 no_summary text u told e = by (rows_in text) refl
   where
     by : (block : List Row) → block ≡ rows_in text → ⊥
-    by [] q = let s = (block_told text u told).some in let z : ◌≡◌ {A = ℕ} 0 1 = let t : none {X = Row} [] ≡ false = ap none q ∙ s in cc in omega arith
+    by [] q = let s = (block_told text u told).some in let t : none {X = Row} [] ≡ false = ap none q ∙ s in cc
     by (b ∷ bs) q =
         let t = (tracks_text Block None text u told).summary in
         let s : Some (extended_by (cells.started b) bs) ≡ None = ap summary_if q ∙ sym t ∙ e in
-        let z : ◌≡◌ {A = ℕ} 0 1 = cc in
-        omega arith
+        cc
 
 pub no_first_flag : (text : List ℕ) (u : Scan) → scan_of Block None text ≡ Ok u → first_flag_of (rows_in text) ≡ None → ⊥
 no_first_flag text u told e = by (rows_in text) (block_told text u told).some e
   where
     by : (block : List Row) → none block ≡ false → first_flag_of block ≡ None → ⊥
-    by [] s q = never (cc)
-    by (b ∷ bs) s q = never (cc)
+    by [] s q = absurd (cc)
+    by (b ∷ bs) s q = absurd (cc)
 
 module _ (room hold : ℕ) (rows : List Row) (text : List ℕ) (u : Scan) (told : Ok u ≡ scan_of Block None text) (m : Summary) (has : u.summary ≡ Some m) (order : in_order rows ≡ true) where
   abbrev block : List Row

@@ -3,7 +3,6 @@ use Rattle.std.proofs.Common.{◌≡◌, ◌<◌, Bool, true, false, cond, List,
 use Rattle.std.proofs.lemmas.Bool.{cond-true, cond-false}
 use Rattle.refusal.specs.declared.Refusal.{Refusal}
 use Rattle.edits.specs.Checks.{Answer, rules, none}
-use Rattle.edits.proofs.FlagLaws.{never}
 
 -- no rule holds
 abbrev pub AllFalse : List (Bool × Refusal) → Type 0
@@ -15,7 +14,7 @@ accepts [] h = refl
 accepts (r ∷ rs) h = cond-false r.0 (Err r.1) (rules rs) h.0 ∙ accepts rs h.1
 
 passed_one : (b : Bool) (e : Refusal) (a : Answer) → cond b (Err e) a ≡ Ok tt → (b ≡ false) × (a ≡ Ok tt)
-passed_one true e a h = never (cc)
+passed_one true e a h = absurd (cc)
 passed_one false e a h = (refl, h)
 
 pub passed : (rs : List (Bool × Refusal)) → rules rs ≡ Ok tt → AllFalse rs

@@ -1,10 +1,9 @@
 //! The place of an edit.
-ghost use Rattle.std.specs.Prelude.{◌≡◌, ◌≤◌, true, map, length};
+ghost use Rattle.std.specs.Prelude.{◌≡◌, ◌-◌, ◌≤◌, map};
 ghost use Rattle.calendar.specs.Instants.{moment};
-ghost use Rattle.tables.specs.Lines.{ascends, time_of, earlier, not_after};
+ghost use Rattle.tables.specs.Lines.{time_of, earlier, not_after};
 
 use calendar::instant::Instant;
-use model::Row;
 use tables::row_table::RowTable;
 use tables::search::{count_before, count_not_after};
 
@@ -16,17 +15,25 @@ pub struct Place {
     pub put: usize,
 }
 
-/// The rows from one instant to another, both included. (Inner: the rows ascend and are few.)
-pub(crate) fn find(rows: &[Row], from: Instant, to: Instant, put: usize) -> Place
-    requires { (ascends rows.now ≡ true) × (length rows.now ≤ 8192) }
-    ensures first { result.first ≡ earlier (map time_of rows.now) (moment from) }
-    ensures end { result.end ≡ not_after (map time_of rows.now) (moment to) }
+impl Place {
+    /// How many rows go out. (Inner: the place does not end before it begins.)
+    pub fn taken(self) -> usize
+        requires { self.first ≤ self.end }
+        ensures { result ≡ self.end - self.first }
+    {
+        self.end - self.first
+    }
+}
+
+/// The rows from one instant to another, both included.
+pub(crate) fn find(rows: RowTable<'_>, from: Instant, to: Instant, put: usize) -> Place
+    ensures first { result.first ≡ earlier (map time_of rows.entry.rows.now) (moment from) }
+    ensures end { result.end ≡ not_after (map time_of rows.entry.rows.now) (moment to) }
     ensures put { result.put ≡ put }
 {
-    let table = RowTable::new(rows);
     Place {
-        first: count_before(&table, from),
-        end: count_not_after(&table, to),
+        first: count_before(&rows, from),
+        end: count_not_after(&rows, to),
         put,
     }
 }

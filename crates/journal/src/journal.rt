@@ -1,4 +1,4 @@
-ghost use Rattle.std.specs.Prelude.{◌≡◌, ◌≤◌, length};
+ghost use Rattle.std.specs.Prelude.{◌≤◌, length};
 
 pub mod entries;
 
@@ -6,14 +6,14 @@ pub mod entries;
 pub const MOST_ENTRIES: usize = 16;
 
 /// What an edit did.
-#[derive(Clone, Copy, PartialEq, Debug)]
+#[derive(Clone, Copy, PartialEq, Eq, Debug)]
 pub enum Edit {
     Paste = 1,
     Cut = 2,
 }
 
 /// One edit: what it did, how many rows stood before the change, and how many it put in and took out.
-#[derive(Clone, Copy, PartialEq, Debug)]
+#[derive(Clone, Copy, PartialEq, Eq, Debug)]
 pub struct Entry {
     pub edit: Edit,
     pub first: usize,
@@ -22,11 +22,12 @@ pub struct Entry {
 }
 
 /// The edits that can be taken back, the newest first.
+// Kept: no model as the list of entries. A journal is Copy, and that list does not give the unused entries back.
 #[derive(Clone, Copy)]
 pub struct Journal {
-    entries: [Entry; 16],
+    // Kept: an array with its length, since a journal has no memory of its own to grow in.
+    entries: [Entry; MOST_ENTRIES],
     len: usize,
-    ghost full: { length entries ≡ 16 },
     ghost inside: { len ≤ 16 },
 }
 

@@ -4,6 +4,7 @@ ghost use Rattle.std.proofs.Math.Seq.{paste};
 
 /// Moves `n` elements from the place `from` to the place `to`; the two parts may overlap. It opens and closes gaps. (Inner: both
 /// parts lie in the slice.)
+// Kept: here and below, and in `Lent`, place and count in two numbers; a range would ask too that it does not end before it begins.
 pub fn move_block<T: Copy>(cells: &mut [T], from: usize, to: usize, n: usize)
     requires source { from + n ≤ length cells.old }
     requires target { to + n ≤ length cells.old }

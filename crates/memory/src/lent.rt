@@ -1,6 +1,7 @@
 //! A lent piece of memory.
 ghost use Rattle.std.specs.Prelude.{◌≡◌, ◌+◌, ◌≤◌, length, take, drop};
 ghost use Rattle.std.proofs.Math.Seq.{paste};
+ghost use Rattle.memory.specs.Places.{SamePlace};
 ghost use Rattle.reading.specs.Stores.{rows_in};
 
 use crate::blocks::{copy_block, move_block};
@@ -33,7 +34,7 @@ impl<'m, T: Copy> Lent<'m, T> {
         requires { n ≤ length self.now.cells.now }
         ensures { result.now ≡ take n self.now.cells.now }
     {
-        &self.cells[0..n]
+        &self.cells[..n]
     }
 
     /// Moves `n` cells from one place to another. (Inner: both parts lie in the memory.)
@@ -41,8 +42,7 @@ impl<'m, T: Copy> Lent<'m, T> {
         requires source { from + n ≤ length self.old.cells.now }
         requires target { to + n ≤ length self.old.cells.now }
         ensures value { self.new.cells.now ≡ paste self.old.cells.now to (drop from self.old.cells.now) n }
-        ensures same { self.new.cells.ghost_name ≡ self.old.cells.ghost_name }
-        ensures len { length self.new.cells.now ≡ length self.old.cells.now }
+        ensures place { SamePlace self.old.cells self.new.cells }
     {
         move_block(self.cells, from, to, n);
     }
@@ -52,8 +52,7 @@ impl<'m, T: Copy> Lent<'m, T> {
         requires source { from + n ≤ length source.now.cells.now }
         requires target { to + n ≤ length self.old.cells.now }
         ensures value { self.new.cells.now ≡ paste self.old.cells.now to (drop from source.now.cells.now) n }
-        ensures same { self.new.cells.ghost_name ≡ self.old.cells.ghost_name }
-        ensures len { length self.new.cells.now ≡ length self.old.cells.now }
+        ensures place { SamePlace self.old.cells self.new.cells }
     {
         copy_block(self.cells, to, source.cells, from, n);
     }
@@ -72,8 +71,7 @@ pub fn load_rows(memory: &mut Lent<'_, Row>, text: &[u8]) -> usize
     requires { length (rows_in text.now) ≤ length memory.old.cells.now }
     ensures rows { take result memory.new.cells.now ≡ rows_in text.now }
     ensures count { result ≡ length (rows_in text.now) }
-    ensures len { length memory.new.cells.now ≡ length memory.old.cells.now }
-    ensures same { memory.new.cells.ghost_name ≡ memory.old.cells.ghost_name }
+    ensures place { SamePlace memory.old.cells memory.new.cells }
 {
     store_rows(text, memory.cells)
 }
@@ -83,8 +81,7 @@ pub fn load_rows_at(memory: &mut Lent<'_, Row>, at: usize, n: usize, text: &[u8]
     requires count { n ≡ length (rows_in text.now) }
     requires target { at + n ≤ length memory.old.cells.now }
     ensures value { memory.new.cells.now ≡ paste memory.old.cells.now at (rows_in text.now) n }
-    ensures same { memory.new.cells.ghost_name ≡ memory.old.cells.ghost_name }
-    ensures len { length memory.new.cells.now ≡ length memory.old.cells.now }
+    ensures place { SamePlace memory.old.cells memory.new.cells }
 {
-    let _ = store_rows(text, &mut memory.cells[at..at + n]);
+    store_rows(text, &mut memory.cells[at..at + n]);
 }

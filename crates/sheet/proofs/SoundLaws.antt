@@ -1,6 +1,5 @@
 -- The test of a sheet's rows and journal, and what it says.
 use Rattle.std.proofs.Common.{◌≡◌, ℕ, zero, suc, ◌+◌, ◌≤◌, min, true, ◌&&◌, leb, List, [], ◌∷◌, length, take, arith}
-use Rattle.std.proofs.lemmas.List.{length-take-le}
 use Rattle.std.proofs.lemmas.Bool.{and_parts, and_from, leb-true, le-leb}
 use Rattle.model.specs.declared.Row.{Row}
 use Rattle.tables.specs.Lines.{ascends}
@@ -43,9 +42,6 @@ rows_ascend room rows ps h = (and_parts (ascends rows) (flags_stay rows) (rows_f
 
 pub rows_few : (room : ℕ) (rows : List Row) (ps : List Past) → is_sound room rows ps ≡ true → length rows ≤ 8192
 rows_few room rows ps h = let f = (rows_fit room rows ps h).1 in omega arith
-
-pub len_few : (room n : ℕ) (cells : List Row) (ps : List Past) → n ≤ length cells → is_sound room (take n cells) ps ≡ true → n ≤ 8192
-len_few room n cells ps h s = let f = rows_few room (take n cells) ps s in omega (arith, length-take-le n cells h)
 
 -- forgetting keeps it
 pub sound_take : (room k : ℕ) (rows : List Row) (ps : List Past) → Sound room rows ps → Sound room rows (take k ps)

@@ -1,7 +1,9 @@
 -- What an undo leaves.
-use Rattle.std.proofs.Common.{◌≡◌, ℕ, ◌+◌, ◌-◌, ◌≤◌, true, List, ◌∷◌, ◌++◌, length, take, drop, sym, ap, ◌∙◌, subst, arith, length-drop, length-take}
+use Rattle.std.proofs.Common.{◌≡◌, ℕ, ◌+◌, ◌-◌, ◌≤◌, true, List, ◌∷◌, ◌++◌, length, take, drop, Some, None, Option, Ok, Result, MatchOption, sym, ap, ◌∙◌, subst, arith, length-drop, length-take}
 use lib.Seq.{paste}
+use Rattle.std.specs.Option.{ok_or}
 use Rattle.std.proofs.lemmas.List.{take-take, length-append, drop-take}
+use Rattle.refusal.specs.declared.Refusal.{Refusal}
 use Rattle.model.specs.declared.Row.{Row}
 use Rattle.memory.proofs.Splice.{splice}
 use Rattle.journal.specs.declared.journal.Entry.{Entry}
@@ -14,6 +16,11 @@ use Rattle.sheet.proofs.SoundLaws.{sound_means, sound_from, sound_fits}
 -- the newest entry with the rows that it took out
 abbrev pub newest : List Row → ℕ → List Entry → Entry → Past
 newest taken held es e = record { entry = e; out = drop (taken_by es) (take held taken) }
+
+-- the entry that was taken out, where there was one
+pub newest_is : {X : Type 0} (A : Type 0) (P : X → Type 0) (o : Option X) (r : Result X Refusal) (e : Refusal) (x : X) → MatchOption o A P → r ≡ ok_or o e → r ≡ Ok x → P x
+newest_is A P None r e x m q w = absurd (cc)
+newest_is A P (Some y) r e x m q w = let s : y ≡ x = cc in subst P s m
 
 module _ (cells taken : List Row) (len held : ℕ) (old es : List Entry) (e : Entry) (inside : len ≤ length cells) (kept : held ≤ length taken) (counted : held ≡ taken_by old)
     (sound : is_sound (length cells) (take len cells) (pasts_of old (take held taken)) ≡ true) (was : old ≡ e ∷ es) where

@@ -1,5 +1,4 @@
 ghost use Rattle.std.specs.Prelude.{◌≡◌, ◌≤◌, true, length, take};
-ghost use Rattle.tables.specs.Lines.{ascends};
 ghost use Rattle.journal.specs.Journals.{entries_of, taken_by};
 ghost use Rattle.sheet.specs.Sound.{is_sound, pasts_of};
 
@@ -13,10 +12,10 @@ pub mod editing;
 pub mod history;
 pub mod table;
 
-/// The most rows of a sheet.
-pub const MOST_ROWS: usize = 8_192;
+pub use tables::lines::MOST_ROWS;
 
 /// A prediction sheet over memory that the caller lends: its rows, and the rows that edits took out, those of the oldest edit first.
+// Kept: `len` and `held` stand beside memory that the caller lends and that cannot grow.
 #[derive(Drop)]
 pub struct Sheet<'m> {
     rows: Lent<'m, Row>,
@@ -31,8 +30,6 @@ pub struct Sheet<'m> {
     /// How many edits and undos were accepted since the opening.
     changes: u32,
     ghost inside: { len ≤ length rows.cells.now },
-    ghost few: { len ≤ 8192 },
-    ghost up: { ascends (take len rows.cells.now) ≡ true },
     ghost kept: { held ≤ length taken.cells.now },
     ghost counted: { held ≡ taken_by (entries_of journal) },
     ghost sound: { is_sound (length rows.cells.now) (take len rows.cells.now) (pasts_of (entries_of journal) (take held taken.cells.now)) ≡ true },

@@ -9,25 +9,27 @@ use refusal::Refusal;
 use tables::lines::{PredictionTable, TimeLine};
 
 impl TimeLine for ClosedSheet<'_> {
-    ghost instants = { λ s. map time_of s.rows.now };
+    ghost instants = { λ s. map time_of s.rows.rows.now };
 
-    fn in_order(&self) {}
+    fn in_order(&self) {
+        self.rows.in_order();
+    }
 
     fn count(&self) -> usize {
-        self.rows.len()
+        self.rows.count()
     }
 
     fn instant(&self, i: usize) -> Result<Instant, Refusal> {
-        Ok(self.row(i)?.at)
+        self.rows.instant(i)
     }
 }
 
 impl PredictionTable for ClosedSheet<'_> {
-    ghost rows = { λ s. s.rows.now };
+    ghost rows = { λ s. s.rows.rows.now };
 
     fn by_rows(&self) {}
 
     fn row(&self, i: usize) -> Result<Row, Refusal> {
-        self.row(i)
+        self.rows.row(i)
     }
 }

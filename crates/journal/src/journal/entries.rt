@@ -34,27 +34,28 @@ impl Journal {
     pub fn entry(&self, i: usize) -> Result<Entry, Refusal>
         ensures { result ≡ place (entries_of self.now) i }
     {
-        if i < self.len {
-            Ok(self.entries[i])
-        } else {
-            Err(Refusal::NoSuchNumber)
-        }
+        self.entries[..self.len]
+            .get(i)
+            .copied()
+            .ok_or(Refusal::NoSuchNumber)
     }
 
     /// The most of the newest entries, 15 or fewer, that took out `room` rows or fewer.
     pub fn fitting(&self, room: usize) -> Kept
         ensures { Fitting room (entries_of self.now) result.entries result.rows }
     {
-        let mut entries = 0;
-        let mut rows = 0;
-        while entries < self.len
-            && entries < MOST_ENTRIES - 1
-            && self.entries[entries].taken <= room - rows
-        {
-            rows += self.entries[entries].taken;
-            entries += 1;
+        let mut kept = Kept {
+            entries: 0,
+            rows: 0,
+        };
+        for entry in &self.entries[..self.len.min(MOST_ENTRIES - 1)] {
+            if entry.taken > room - kept.rows {
+                return kept;
+            }
+            kept.entries += 1;
+            kept.rows += entry.taken;
         }
-        Kept { entries, rows }
+        kept
     }
 
     /// Adds an entry in front of the `keep` newest; the others are forgotten. (Inner: there are so many, and there is room for one
@@ -77,9 +78,8 @@ impl Journal {
             return None;
         }
         let newest = self.entries[0];
-        let left = self.len - 1;
-        move_block(&mut self.entries, 1, 0, left);
-        self.len = left;
+        self.len -= 1;
+        move_block(&mut self.entries, 1, 0, self.len);
         Some(newest)
     }
 }

@@ -10,7 +10,6 @@ ghost use Rattle.sheet.specs.Sheets.{rows_of, row_memory, taken_memory, Opened, 
 
 use crate::sheet::{MOST_ROWS, Sheet};
 use cells::summary::Cells;
-use cells::summary::running::cells_of;
 use closed_sheet::closed::ClosedSheet;
 use journal::journal::Journal;
 use memory::lent::{Lent, load_rows};
@@ -19,7 +18,7 @@ use model::header::Header;
 use reading::stage::Part;
 use reading::text::scan_text;
 use refusal::Refusal;
-use writing::file::write_file;
+use tables::row_table::RowTable;
 
 impl<'m> Sheet<'m> {
     /// An empty sheet, with no file open, over memory for rows and for rows taken out.
@@ -61,35 +60,21 @@ impl<'m> Sheet<'m> {
     pub fn cells(&self) -> Result<Cells, Refusal>
         ensures { result ≡ cells_answer self.now.header (rows_of self.now) }
     {
-        if self.header.is_none() {
-            return Err(Refusal::NoFileOpen);
-        }
-        match cells_of(self.rows.first(self.len)) {
-            Some(cells) => Ok(cells),
-            None => Err(Refusal::NoFileOpen),
-        }
+        self.as_closed().cells()
     }
 
     /// The header; 24 when no file is open.
     pub fn header(&self) -> Result<Header, Refusal>
         ensures { result ≡ header_answer self.now.header }
     {
-        match self.header {
-            Some(header) => Ok(header),
-            None => Err(Refusal::NoFileOpen),
-        }
+        self.as_closed().header()
     }
 
     /// The row of a number counted from 0; 28 where there is none.
     pub fn row(&self, i: usize) -> Result<Row, Refusal>
         ensures { result ≡ place (rows_of self.now) i }
     {
-        let rows = self.rows.first(self.len);
-        if i < rows.len() {
-            Ok(rows[i])
-        } else {
-            Err(Refusal::NoSuchNumber)
-        }
+        self.as_closed().row(i)
     }
 
     /// Writes the canonical file at the start of the output, and answers its length. Refusals: 24, 33, which leave the output as it
@@ -98,16 +83,28 @@ impl<'m> Sheet<'m> {
         ensures answer { result ≡ file_answer self.now.header (rows_of self.now) out.old }
         ensures after { out.new ≡ after_file self.now.header (rows_of self.now) out.old }
     {
-        match self.header {
-            Some(header) => write_file(&header, self.rows.first(self.len), out),
-            None => Err(Refusal::NoFileOpen),
-        }
+        self.as_closed().write(out)
+    }
+
+    /// The rows in use, as a table.
+    pub(crate) fn table(&self) -> RowTable<'_>
+        ensures { result.rows.now ≡ rows_of self.now }
+    {
+        RowTable::new(self.rows.first(self.len))
+    }
+
+    /// What the sheet would be closed to now.
+    fn as_closed(&self) -> ClosedSheet<'_>
+        ensures header { result.header ≡ self.now.header }
+        ensures rows { result.rows.rows.now ≡ rows_of self.now }
+    {
+        ClosedSheet::new(self.header, self.table())
     }
 
     /// Closes the sheet: it is used up, and what is left is its header and rows, for reading.
     pub fn close(self) -> ClosedSheet<'m>
         ensures header { result.header ≡ self.entry.header }
-        ensures rows { result.rows.now ≡ rows_of self.entry }
+        ensures rows { result.rows.rows.now ≡ rows_of self.entry }
     {
         let Sheet {
             rows,
@@ -115,6 +112,6 @@ impl<'m> Sheet<'m> {
             len,
             ..
         } = self;
-        ClosedSheet::new(header, &rows.close()[0..len])
+        ClosedSheet::new(header, RowTable::new(&rows.close()[..len]))
     }
 }

@@ -1,5 +1,5 @@
 //! The calls of a sheet that edit it, and undo.
-ghost use Rattle.std.specs.Prelude.{◌≡◌, min, [], length};
+ghost use Rattle.std.specs.Prelude.{min, [], length};
 ghost use Rattle.reading.specs.Stores.{rows_in};
 ghost use Rattle.journal.specs.declared.journal.Edit.TheVariants.{Paste, Cut};
 ghost use Rattle.edits.specs.Changes.{change_at};
@@ -10,6 +10,7 @@ ghost use Rattle.sheet.specs.Calls.{Edited, Pasted, CutOut, Undone};
 ghost use Rattle.sheet.specs.Sheets.{rows_of, row_memory, taken_memory, state_of, view, KeptIfRefused};
 
 use crate::sheet::Sheet;
+use calendar::instant::Timestamp;
 use edits::cut::place_cut;
 use edits::paste::place_paste;
 use edits::place::Place;
@@ -23,7 +24,7 @@ impl Sheet<'_> {
         requires { Ready (min (length (row_memory self.old)) 8192) (length (taken_memory self.old)) edit (rows_in block.now) (rows_of self.old) (change_at edit place.first place.end (rows_in block.now) (rows_of self.old)) place }
         ensures { Edited (view self.old) (change_at edit place.first place.end (rows_in block.now) (rows_of self.old)) (view self.new) }
     {
-        let taken = place.end - place.first;
+        let taken = place.taken();
         let stay = self.journal.fitting(self.taken.len() - taken);
         self.taken.move_block(self.held - stay.rows, 0, stay.rows);
         self.taken
@@ -33,14 +34,12 @@ impl Sheet<'_> {
             .move_block(place.end, place.first + place.put, self.len - place.end);
         load_rows_at(&mut self.rows, place.first, place.put, block);
         self.len = self.len - taken + place.put;
-        let first = place.first;
-        let put = place.put;
         self.journal.add(
             stay.entries,
             Entry {
                 edit,
-                first,
-                put,
+                first: place.first,
+                put: place.put,
                 taken,
             },
         );
@@ -51,28 +50,16 @@ impl Sheet<'_> {
     fn place_of_block(&self, block: &[u8]) -> Result<Place, Refusal>
         ensures { Decided (paste_answer (state_of self.now) block.now) (min (length (row_memory self.now)) 8192) (length (taken_memory self.now)) Paste (rows_in block.now) (rows_of self.now) (paste_of (rows_in block.now) (rows_of self.now)) result }
     {
-        if self.header.is_none() {
-            return Err(Refusal::NoFileOpen);
-        }
-        let rows = self.rows.first(self.len);
-        place_paste(rows, self.rows.len(), self.taken.len(), block)
+        self.header()?;
+        place_paste(self.table(), self.rows.len(), self.taken.len(), block)
     }
 
     /// Where a cut acts, or why it cannot: 24, 29, 25, 26, 23.
-    fn place_of_cut(
-        &self,
-        day: u32,
-        micros: u64,
-        end_day: u32,
-        end_micros: u64,
-    ) -> Result<Place, Refusal>
-        ensures { Decided (cut_answer (state_of self.now) day micros end_day end_micros) (length (rows_of self.now)) (length (taken_memory self.now)) Cut [] (rows_of self.now) (cut_of (joined day micros) (joined end_day end_micros) (rows_of self.now)) result }
+    fn place_of_cut(&self, from: Timestamp, to: Timestamp) -> Result<Place, Refusal>
+        ensures { Decided (cut_answer (state_of self.now) from.day from.micros to.day to.micros) (length (rows_of self.now)) (length (taken_memory self.now)) Cut [] (rows_of self.now) (cut_of (joined from.day from.micros) (joined to.day to.micros) (rows_of self.now)) result }
     {
-        if self.header.is_none() {
-            return Err(Refusal::NoFileOpen);
-        }
-        let rows = self.rows.first(self.len);
-        place_cut(rows, self.taken.len(), day, micros, end_day, end_micros)
+        self.header()?;
+        place_cut(self.table(), self.taken.len(), from, to)
     }
 
     /// Pastes a block of rows: each row from the block's first to its last instant goes out, and the block comes there. Refusals: 24, those
@@ -86,19 +73,12 @@ impl Sheet<'_> {
         Ok(())
     }
 
-    /// Cuts the rows from one instant to another, both included, each given as a day number and microseconds of the day. Refusals: 24, 29,
-    /// 25, 26, 23.
-    pub fn cut(
-        &mut self,
-        day: u32,
-        micros: u64,
-        end_day: u32,
-        end_micros: u64,
-    ) -> Result<(), Refusal>
-        ensures cut { CutOut (view self.old) day micros end_day end_micros result (view self.new) }
+    /// Cuts the rows from one instant to another, both included. Refusals: 24, 29, 25, 26, 23.
+    pub fn cut(&mut self, from: Timestamp, to: Timestamp) -> Result<(), Refusal>
+        ensures cut { CutOut (view self.old) from.day from.micros to.day to.micros result (view self.new) }
         ensures refused { KeptIfRefused result self.old self.new }
     {
-        let place = self.place_of_cut(day, micros, end_day, end_micros)?;
+        let place = self.place_of_cut(from, to)?;
         self.make(Edit::Cut, place, &[]);
         Ok(())
     }
@@ -108,23 +88,16 @@ impl Sheet<'_> {
         ensures undone { Undone (view self.old) result (view self.new) }
         ensures refused { KeptIfRefused result self.old self.new }
     {
-        if self.header.is_none() {
-            return Err(Refusal::NoFileOpen);
-        }
-        match self.journal.take_newest() {
-            None => Err(Refusal::JournalEmpty),
-            Some(newest) => {
-                let past = newest.first + newest.put;
-                let left = self.held - newest.taken;
-                self.rows
-                    .move_block(past, newest.first + newest.taken, self.len - past);
-                self.rows
-                    .copy_from(newest.first, &self.taken, left, newest.taken);
-                self.len = self.len - newest.put + newest.taken;
-                self.held = left;
-                self.changes = self.changes.saturating_add(1);
-                Ok(())
-            }
-        }
+        self.header()?;
+        let newest = self.journal.take_newest().ok_or(Refusal::JournalEmpty)?;
+        let past = newest.first + newest.put;
+        self.held -= newest.taken;
+        self.rows
+            .move_block(past, newest.first + newest.taken, self.len - past);
+        self.rows
+            .copy_from(newest.first, &self.taken, self.held, newest.taken);
+        self.len = self.len - newest.put + newest.taken;
+        self.changes = self.changes.saturating_add(1);
+        Ok(())
     }
 }

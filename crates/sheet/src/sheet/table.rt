@@ -11,14 +11,16 @@ use tables::lines::{PredictionTable, TimeLine};
 impl TimeLine for Sheet<'_> {
     ghost instants = { λ s. map time_of (take s.len s.rows.cells.now) };
 
-    fn in_order(&self) {}
+    fn in_order(&self) {
+        self.table().in_order();
+    }
 
     fn count(&self) -> usize {
-        self.len
+        self.table().count()
     }
 
     fn instant(&self, i: usize) -> Result<Instant, Refusal> {
-        Ok(self.row(i)?.at)
+        self.table().instant(i)
     }
 }
 
@@ -28,6 +30,6 @@ impl PredictionTable for Sheet<'_> {
     fn by_rows(&self) {}
 
     fn row(&self, i: usize) -> Result<Row, Refusal> {
-        self.row(i)
+        self.table().row(i)
     }
 }

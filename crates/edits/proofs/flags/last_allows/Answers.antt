@@ -1,6 +1,10 @@
-use Rattle.std.proofs.Common.{◌∙◌, arith}
-use Rattle.edits.proofs.PasteLaws.{last_allowed}
+use Rattle.std.proofs.Common.{List, take, ap, ◌∙◌, rules}
+use Rattle.model.specs.declared.Row.{Row}
+use Rattle.edits.specs.Places.{last_allows}
+use Rattle.edits.proofs.PasteLaws.{last_told}
 use Rattle.edits.proofs.flags.last_allows.Goals as goal
 
 pub returns : goal.returns
-returns c = c.allows.ensures ∙ last_allowed c.args.rows.now c.args.n c.index-rows-n.result c.args.flag (omega arith) c.requires
+returns c =
+    last_told (take c.args.n c.rows.result.now) c.args.flag c.last.result c.is_none_or.result c.last.ensures.value c.is_none_or.ensures (λ h. h) (λ x h. search rules)
+    ∙ ap (λ (l : List Row). last_allows (take c.args.n l) c.args.flag) c.rows.ensures

@@ -18,4 +18,4 @@ returns c =
     let all : c.store_rows.result ≡ n = c.store_rows.ensures.count ∙ sym count in
     let same : part ≡ rows = sym (take_all n part (omega arith)) ∙ ap (λ j. take j part) (sym all) ∙ c.store_rows.ensures.rows in
     let value = put_mid-paste at ((at + n) - at) cells part rows n same (omega arith) count in
-    record { value = value; same = refl; len = ap length value ∙ length-paste cells at rows n target (omega arith) }
+    record { value = value; place = record { same = refl; len = ap length value ∙ length-paste cells at rows n target (omega arith) } }

@@ -9,5 +9,5 @@ use Rattle.sheet.proofs.sheet.Sheet.cut.Goals as goal
 pub make-requires : goal.make-requires
 make-requires c =
     let s = c.args.self.now in
-    ready_at (length (rows_of s)) (min (length (row_memory s)) 8192) (length (taken_memory s)) Cut [] (rows_of s) (cut_of (joined c.args.day c.args.micros) (joined c.args.end_day c.args.end_micros) (rows_of s)) c.in_ok-place.place
+    ready_at (length (rows_of s)) (min (length (row_memory s)) 8192) (length (taken_memory s)) Cut [] (rows_of s) (cut_of (joined c.args.from.day c.args.from.micros) (joined c.args.to.day c.args.to.micros) (rows_of s)) c.in_ok-place.place
     (rows_fit (length (row_memory s)) (rows_of s) (view s).journal s.sound).1 c.in_ok-place.ensures.1

@@ -1,11 +1,9 @@
 use Rattle.std.proofs.Common.{◌≡◌, ◌≤◌, min, true, length, take, Some, Ok, sym, refl, ap, ◌∙◌, arith}
-use Rattle.std.proofs.lemmas.Bool.{and_parts}
 use Rattle.reading.specs.declared.stage.Part.TheVariants.{File}
 use Rattle.reading.specs.Texts.{scan_of}
 use Rattle.reading.specs.Stores.{rows_in}
 use Rattle.reading.proofs.TrackLaws.{tracks_text}
-use Rattle.tables.specs.Lines.{ascends}
-use Rattle.edits.specs.Checks.{in_order, flags_stay}
+use Rattle.edits.specs.Checks.{in_order}
 use Rattle.edits.proofs.OrderLaws.{text_in_order}
 use Rattle.journal.specs.Journals.{entries_of, taken_by}
 use Rattle.sheet.specs.Openings.{contents_by, opened_from}
@@ -48,14 +46,12 @@ invariant_of-self c =
     let room = f.room in
     let put = c.load_rows-self.ensures in
     let count = put.count in
-    let len = put.len in
+    let len = put.place.len in
     record {
       inside = omega arith;
-      few = omega arith;
-      up = ap ascends put.rows ∙ (and_parts (ascends rows) (flags_stay rows) f.order).0;
       kept = omega arith;
       counted = sym (ap taken_by c.new-self.ensures);
-      sound = sound_open (length c.args.self.now.rows.cells.now) c.load_rows-self.result rows c.load_rows-self.new.memory.cells.now (entries_of c.new-self.result) _ put.rows put.len room f.order c.new-self.ensures;
+      sound = sound_open (length c.args.self.now.rows.cells.now) c.load_rows-self.result rows c.load_rows-self.new.memory.cells.now (entries_of c.new-self.result) _ put.rows put.place.len room f.order c.new-self.ensures;
     }
 
 pub returns : goal.returns
@@ -68,13 +64,13 @@ returns c =
       holds = (
         record { header = c.in_ok-scan.scan.header; rows = rows_in c.args.file.now },
         f.told,
-        record { header = refl; rows = put.rows; journal = c.new-self.ensures; changes = refl; room = put.len; taken = refl },
+        record { header = refl; rows = put.rows; journal = c.new-self.ensures; changes = refl; room = put.place.len; taken = refl },
       );
       opened = record {
         answer = sym (ap accepted f.told);
         after =
             (λ i. record {
-              state = record { room = put.len i; hold = length s.taken.cells.now; header = Some c.in_ok-scan.scan.header; rows = put.rows i; changes = 0 };
+              state = record { room = put.place.len i; hold = length s.taken.cells.now; header = Some c.in_ok-scan.scan.header; rows = put.rows i; changes = 0 };
               journal = j i;
             })
             ∙ sym (ap (after_opening (view s)) f.told);

@@ -1,12 +1,10 @@
-use Rattle.std.proofs.Common.{◌≡◌, ◌≤◌, true, length, sym, subst}
+use Rattle.std.proofs.Common.{◌≡◌, true, length, sym, subst}
 use Rattle.edits.specs.Checks.{in_order}
 use Rattle.sheet.specs.Sheets.{view, rows_of, row_memory}
-use Rattle.sheet.proofs.SoundLaws.{rows_fit, rows_few}
+use Rattle.sheet.proofs.SoundLaws.{rows_fit}
 use Rattle.sheet.proofs.sheet.Sheet.place_of_block.Goals as goal
 
 pub place_paste-requires : goal.place_paste-requires
 place_paste-requires c =
     let s = c.args.self.now in
-    let p = subst (λ rows. (in_order rows ≡ true) × (length rows ≤ 8192)) (sym c.first-rows.ensures)
-    ((rows_fit (length (row_memory s)) (rows_of s) (view s).journal s.sound).0, rows_few (length (row_memory s)) (rows_of s) (view s).journal s.sound) in
-    record { order = p.0; few = p.1 }
+    subst (λ rows. in_order rows ≡ true) (sym c.table.ensures) (rows_fit (length (row_memory s)) (rows_of s) (view s).journal s.sound).0

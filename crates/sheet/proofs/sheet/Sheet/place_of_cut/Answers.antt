@@ -1,11 +1,10 @@
-use Rattle.std.proofs.Common.{◌≡◌, ◌≤◌, true, length, sym, subst}
+use Rattle.std.proofs.Common.{◌≡◌, true, length, sym, subst}
 use Rattle.edits.specs.Checks.{in_order}
 use Rattle.sheet.specs.Sheets.{view, rows_of, row_memory}
-use Rattle.sheet.proofs.SoundLaws.{rows_fit, rows_few}
+use Rattle.sheet.proofs.SoundLaws.{rows_fit}
 use Rattle.sheet.proofs.sheet.Sheet.place_of_cut.Goals as goal
 
 pub place_cut-requires : goal.place_cut-requires
 place_cut-requires c =
     let s = c.args.self.now in
-    subst (λ rows. (in_order rows ≡ true) × (length rows ≤ 8192)) (sym c.first-rows.ensures)
-    ((rows_fit (length (row_memory s)) (rows_of s) (view s).journal s.sound).0, rows_few (length (row_memory s)) (rows_of s) (view s).journal s.sound)
+    subst (λ rows. in_order rows ≡ true) (sym c.table.ensures) (rows_fit (length (row_memory s)) (rows_of s) (view s).journal s.sound).0
