@@ -14,7 +14,6 @@ use Rattle.reading.specs.Stores.{rows_on, rows_in}
 use Rattle.reading.proofs.TextLaws.{short_text}
 use Rattle.format.specs.Format.{Entry, without_comments, AreRows, IsBlock}
 use Rattle.format.specs.Laws.{ReadAsBlock, BlocksExact, BlockRowsUnique}
-use Rattle.format.proofs.Common.{never}
 use Rattle.format.proofs.TextLaws.{text_sound, text_complete}
 use Rattle.format.proofs.StepLaws.{rows_by, lines_sound, lines_complete, rows_complete}
 use Rattle.format.proofs.RowLaws.{block, block_room, body_rows, bare_rows}
@@ -32,7 +31,7 @@ ended_well u n p q = by_done (rows_done u.stage) (ap (λ z. end_refusal_of z u n
   where
     by_done : (b : Bool) → ◌≡◌ {A = Result (Unit {0}) Refusal} (cond b (Ok tt) (Err (OutOfPlace (n + 1)))) (Ok tt) → b ≡ true
     by_done true h = refl
-    by_done false h = never (cc)
+    by_done false h = cc
 
 lines_block : (bs : List ℕ) (u : Scan) → length bs ≤ 2097152 → scan_from 0 (text_of bs) (started Block None) ≡ Ok u → IsBlock bs (rows_in bs)
 lines_block bs u short q =

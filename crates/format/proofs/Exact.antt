@@ -15,7 +15,8 @@ use Rattle.reading.specs.declared.scan.Scan.{Scan}
 use Rattle.reading.specs.declared.stage.Stage.TheVariants as at
 use Rattle.reading.specs.declared.stage.Part.{Part}
 use Rattle.reading.specs.declared.stage.Part.TheVariants.{File}
-use Rattle.reading.specs.Builds.{origin_of, satellite_of, span_of}
+use Rattle.records.specs.Builds.{origin_of, satellite_of}
+use Rattle.reading.specs.Builds.{span_of}
 use Rattle.reading.specs.Scans.{started}
 use Rattle.reading.specs.Ends.{span_agrees, is_end, span_refusal_by, span_refusal, end_refusal_of, end_refusal}
 use Rattle.reading.specs.Texts.{scan_from, scan_of}
@@ -24,7 +25,7 @@ use Rattle.reading.proofs.TextLaws.{short_text}
 use Rattle.sheet.specs.Openings.{Contents, contents_by}
 use Rattle.format.specs.Format.{Entry, entry, without_comments, maybe, AreRows, accuracy_if, offset_if, Ascend, FlagsStay, Stated, IsFile}
 use Rattle.format.specs.Laws.{OpeningExact, ContentsUnique}
-use Rattle.format.proofs.Common.{never, by_bool}
+use Rattle.numbers.proofs.Taken.{by_bool}
 use Rattle.format.proofs.TextLaws.{text_sound, text_complete}
 use Rattle.format.proofs.StepLaws.{Scanned, rows_by, lines_sound, lines_complete, rows_complete}
 use Rattle.format.proofs.RowLaws.{Source, file, state, RoomFor, file_room, chain_ascends, chain_flags, chain_room, chain_from, body_rows, bare_rows, trailer_rows, header_rows}
@@ -60,7 +61,7 @@ chained_stated k vs (r ∷ rs) c q = ap (span_agrees (span_of vs)) (sym (cells_b
   where
     agreed : (b : Bool) → ◌≡◌ {A = Result (Unit {0}) Refusal} (cond b (Ok tt) (Err CellsDisagree)) (Ok tt) → b ≡ true
     agreed true p = refl
-    agreed false p = never (cc)
+    agreed false p = cc
 
 pub chained : (k : Source) (rows : List Row) → 1 ≤ length rows → Ascend rows → FlagsStay rows → RoomFor k (length rows) → Chained k rows
 chained k [] s a f n = absurd (omega arith)
@@ -80,7 +81,7 @@ ended_well u n p q = by_end (is_end u.stage) (ap (λ z. end_refusal_of z u n) (s
   where
     by_end : (b : Bool) → cond b (span_refusal u) (Err (OutOfPlace (n + 1))) ≡ Ok tt → (b ≡ true) × (span_refusal u ≡ Ok tt)
     by_end true h = (refl, h)
-    by_end false h = never (cc)
+    by_end false h = cc
 
 pub scanned_part : (es : List Entry) (s u : Scan) → Scanned es s u → u.part ≡ s.part
 scanned_part [] s u c = ap (λ z. z.part) (sym c)
@@ -128,7 +129,7 @@ lines_file k bs u short q =
 pub scan_short : (p : Part) (room : Option ℕ) (bs : List ℕ) (u : Scan) → scan_of p room bs ≡ Ok u → (length bs ≤ 2097152) × (scan_from 0 (text_of bs) (started p room) ≡ Ok u)
 scan_short p room bs u q =
     by_bool (ltb 2097152 (length bs))
-    (λ h. let e : ◌≡◌ {A = Result Scan Refusal} (Err (TooLong 0)) (Ok u) = rw h at q in never (cc))
+    (λ h. let e : ◌≡◌ {A = Result Scan Refusal} (Err (TooLong 0)) (Ok u) = rw h at q in cc)
     (λ h. (ltb-false 2097152 (length bs) h, rw h at q))
 
 scan_sound : (k : ℕ) (bs : List ℕ) (u : Scan) → scan_of File (Some k) bs ≡ Ok u → Fits k bs u.header (rows_in bs)
@@ -159,7 +160,7 @@ scan_complete k bs h rows x =
     }
 
 opened_sound : (k : ℕ) (bs : List ℕ) (h : Header) (rows : List Row) (r : Result Scan Refusal) → scan_of File (Some k) bs ≡ r → contents_by r (rows_in bs) ≡ Ok (record { header = h; rows = rows }) → Fits k bs h rows
-opened_sound k bs h rows (Err e) p q = never (cc)
+opened_sound k bs h rows (Err e) p q = cc
 opened_sound k bs h rows (Ok u) p q =
     let e : ◌≡◌ {A = Contents} (record { header = u.header; rows = rows_in bs }) (record { header = h; rows = rows }) = cc in
     subst (λ c. Fits k bs c.header c.rows) e (scan_sound k bs u p)

@@ -17,11 +17,12 @@ use Rattle.reading.specs.declared.stage.Stage.{Stage}
 use Rattle.reading.specs.declared.stage.Stage.TheVariants as at
 use Rattle.reading.specs.declared.stage.Part.TheVariants as part
 use Rattle.reading.specs.Order.{rows_done, next_stage}
-use Rattle.reading.specs.Builds.{origin_of, satellite_of, span_of, row_of}
+use Rattle.records.specs.Builds.{origin_of, satellite_of}
+use Rattle.reading.specs.Builds.{span_of, row_of}
 use Rattle.reading.specs.Scans.{started, row_refusal, with_row, on_ok, taken, with_stage}
 use Rattle.reading.specs.Ends.{end_refusal}
 use Rattle.format.specs.Format.{Entry, entry, without_comments, maybe, positions, position_rows, Both, pairs, pair_rows, AreRows, plain, moving, accuracy_if, offset_if}
-use Rattle.format.proofs.Common.{never, by_bool}
+use Rattle.numbers.proofs.Taken.{by_bool}
 use Rattle.format.proofs.StepLaws.{is_comment_lem, Follows, Scanned}
 use Rattle.format.proofs.RowLaws.{Source, file, block, state, RoomAfter, May, Chain, may_complete, first_complete}
 use Rattle.format.proofs.StageLaws.{is_open, comment_stays}
@@ -32,10 +33,10 @@ hop s x t vs st p q b = record { stage = st; next = x; place = p; content = q; i
 
 row_hop : (k : Source) (st to : Stage) (h : Header) (p : Span) (m : Option Summary) (vs : List Value) → next_stage k.part st rec.Position ≡ Some to → row_refusal 0 (state k st h p m) (row_of vs) ≡ Ok tt
     → Follows (state k st h p m) (state k to h p (Some (summary_with m (row_of vs)))) (entry rec.Position vs)
-row_hop k st to h p m vs e q = hop (state k st h p m) (with_row (state k st h p m) (row_of vs)) rec.Position vs to e (ap (λ a. on_ok a (with_row (state k st h p m) (row_of vs))) q) (λ b. never (cc))
+row_hop k st to h p m vs e q = hop (state k st h p m) (with_row (state k st h p m) (row_of vs)) rec.Position vs to e (ap (λ a. on_ok a (with_row (state k st h p m) (row_of vs))) q) (λ b. cc)
 
 still : (k : Source) (st to : Stage) (h : Header) (p : Span) (m : Option Summary) (vs : List Value) → next_stage k.part st rec.Velocity ≡ Some to → Follows (state k st h p m) (state k to h p m) (entry rec.Velocity vs)
-still k st to h p m vs e = hop (state k st h p m) (state k st h p m) rec.Velocity vs to e refl (λ b. never (cc))
+still k st to h p m vs e = hop (state k st h p m) (state k st h p m) rec.Velocity vs to e refl (λ b. cc)
 
 module _ (k : Source) (h : Header) (p : Span) where
   plain_on : (ps : List (List Value)) (m : Summary) → Chain k m (position_rows ps) → Scanned (positions ps) (state k at.Position h p (Some m)) (state k at.Position h p (Some (extended_by m (position_rows ps))))
@@ -114,11 +115,11 @@ headed h1 h2 h3 h5 = head (origin_of h1) (satellite_of h2) (accuracy_if h3) (off
 -- the header records lead to the rows
 header_on : (k : Source) (h1 h2 : List Value) (h3 h5 : Option (List Value)) (body : List Entry) (u : Scan) → Scanned body (state k at.H9 (headed h1 h2 h3 h5) (span_of h2) None) u
     → Scanned (entry rec.H2 h2 ∷ maybe rec.H3 h3 (maybe rec.H5 h5 (entry rec.H9 [] ∷ body))) (after_origin k (origin_of h1)) u
-header_on k h1 h2 None None body u c = (_, hop _ _ rec.H2 h2 at.H2 refl refl (λ b. never (cc)), (_, hop _ _ rec.H9 [] at.H9 refl refl (λ b. refl), c))
-header_on k h1 h2 None (Some f) body u c = (_, hop _ _ rec.H2 h2 at.H2 refl refl (λ b. never (cc)), (_, hop _ _ rec.H5 f at.H5 refl refl (λ b. never (cc)), (_, hop _ _ rec.H9 [] at.H9 refl refl (λ b. refl), c)))
-header_on k h1 h2 (Some a) None body u c = (_, hop _ _ rec.H2 h2 at.H2 refl refl (λ b. never (cc)), (_, hop _ _ rec.H3 a at.H3 refl refl (λ b. never (cc)), (_, hop _ _ rec.H9 [] at.H9 refl refl (λ b. refl), c)))
+header_on k h1 h2 None None body u c = (_, hop _ _ rec.H2 h2 at.H2 refl refl (λ b. cc), (_, hop _ _ rec.H9 [] at.H9 refl refl (λ b. refl), c))
+header_on k h1 h2 None (Some f) body u c = (_, hop _ _ rec.H2 h2 at.H2 refl refl (λ b. cc), (_, hop _ _ rec.H5 f at.H5 refl refl (λ b. cc), (_, hop _ _ rec.H9 [] at.H9 refl refl (λ b. refl), c)))
+header_on k h1 h2 (Some a) None body u c = (_, hop _ _ rec.H2 h2 at.H2 refl refl (λ b. cc), (_, hop _ _ rec.H3 a at.H3 refl refl (λ b. cc), (_, hop _ _ rec.H9 [] at.H9 refl refl (λ b. refl), c)))
 header_on k h1 h2 (Some a) (Some f) body u c =
-    (_, hop _ _ rec.H2 h2 at.H2 refl refl (λ b. never (cc)), (_, hop _ _ rec.H3 a at.H3 refl refl (λ b. never (cc)), (_, hop _ _ rec.H5 f at.H5 refl refl (λ b. never (cc)), (_, hop _ _ rec.H9 [] at.H9 refl refl (λ b. refl), c))))
+    (_, hop _ _ rec.H2 h2 at.H2 refl refl (λ b. cc), (_, hop _ _ rec.H3 a at.H3 refl refl (λ b. cc), (_, hop _ _ rec.H5 f at.H5 refl refl (λ b. cc), (_, hop _ _ rec.H9 [] at.H9 refl refl (λ b. refl), c))))
 
 header_inside : (h2 : List Value) (h3 h5 : Option (List Value)) (body : List Entry) → AllByRecursion Inner body → AllByRecursion Inner (entry rec.H2 h2 ∷ maybe rec.H3 h3 (maybe rec.H5 h5 (entry rec.H9 [] ∷ body)))
 header_inside h2 None None body i = (refl, (refl, i))
@@ -135,7 +136,7 @@ with_comments (e ∷ es) s u o i c =
     let j : AllByRecursion Inner (without_comments es) = rw h at i in
     let d : Scanned (without_comments es) s u = rw h at c in (
       s,
-      record { stage = s.stage; next = s; place = ap (next_stage s.part s.stage) w ∙ comment_stays s.stage o; content = ap (λ t. taken 0 s t e.values) w; is = refl; bare = λ n b. never (let z = sym h ∙ n in cc) },
+      record { stage = s.stage; next = s; place = ap (next_stage s.part s.stage) w ∙ comment_stays s.stage o; content = ap (λ t. taken 0 s t e.values) w; is = refl; bare = λ n b. (let z = sym h ∙ n in cc) },
       with_comments es s u o j d,
     ))
     (λ h. let j : AllByRecursion Inner (e ∷ without_comments es) = rw h at i in
@@ -158,7 +159,7 @@ order_complete k h1 h2 h3 h5 middle body rows e made c =
     let d = subst (λ l. Scanned l from v) (sym e) (header_on (file k) h1 h2 h3 h5 body v r.scanned) in
     let done = r.done in
     let place : next_stage part.File r.stage rec.Trailer ≡ Some at.End = rw done in
-    (from, hop (started part.File (Some k)) _ rec.H1 h1 at.H1 refl refl (λ b. never (cc)), scan_last middle from v _ (entry rec.Trailer []) (with_comments middle from v refl i d) (hop v v rec.Trailer [] at.End place refl (λ b. refl)))
+    (from, hop (started part.File (Some k)) _ rec.H1 h1 at.H1 refl refl (λ b. cc), scan_last middle from v _ (entry rec.Trailer []) (with_comments middle from v refl i d) (hop v v rec.Trailer [] at.End place refl (λ b. refl)))
 
 -- what a block is read to
 pub record BlockRead (es : List Entry) : Type 0 where

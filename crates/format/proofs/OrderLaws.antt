@@ -22,11 +22,11 @@ use Rattle.reading.specs.declared.stage.Stage.{Stage}
 use Rattle.reading.specs.declared.stage.Stage.TheVariants as at
 use Rattle.reading.specs.declared.stage.Part.TheVariants as part
 use Rattle.reading.specs.Order.{after_comment, rows_done, next_stage}
-use Rattle.reading.specs.Builds.{origin_of, satellite_of, span_of, accuracy_of, offset_of, row_of}
+use Rattle.records.specs.Builds.{origin_of, satellite_of, accuracy_of, offset_of}
+use Rattle.reading.specs.Builds.{span_of, row_of}
 use Rattle.reading.specs.Scans.{started, row_refusal, with_row, on_ok, taken, with_stage}
 use Rattle.reading.specs.Ends.{is_end}
 use Rattle.format.specs.Format.{Entry, entry, without_comments, maybe, positions, position_rows, Both, pairs, pair_rows, AreRows, plain, moving, accuracy_if, offset_if}
-use Rattle.format.proofs.Common.{never}
 use Rattle.format.proofs.StepLaws.{Follows, Scanned}
 use Rattle.format.proofs.RowLaws.{Source, file, block, state, RoomAfter, Chain, may_sound, first_sound}
 use Rattle.format.proofs.StageLaws.{is_inner, Kind, comment, trailer, inner, kind_of_lem, inner_says, is_open, goes_open, comment_stays, open_not_end, from_end, trailer_place, from_start, from_h1, from_h2, from_h3, from_h5, from_h9, from_first, from_position, from_velocity, from_awaiting}
@@ -36,7 +36,7 @@ Inner e = is_inner e.type ≡ true
 
 on_row : (a : Result (Unit {0}) Refusal) (x next : Scan) → on_ok a x ≡ Ok next → (a ≡ Ok tt) × (next ≡ x)
 on_row (Ok u) x next q = (refl, cc)
-on_row (Err e) x next q = never (cc)
+on_row (Err e) x next q = cc
 
 -- a scan that a record has left is in its part of the text
 part_kept : (x next s : Scan) → x.part ≡ s.part → ◌≡◌ {A = Result Scan Refusal} (Ok x) (Ok next) → next.part ≡ s.part
@@ -88,7 +88,7 @@ block_at : (e : Entry) (es : List Entry) (s v u : Scan) → s.part ≡ part.Bloc
 block_at e es s v u p o f next (comment w) =
     let same = comment_same s v e o w f in
     comment_bare e es s v u same w (next (ap (λ z. z.part) same ∙ p) (ap (λ z. is_open z.stage) same ∙ o))
-block_at e es s v u p o f next (trailer w) = let place : None ≡ Some f.stage = (λ i. next_stage (sym p i) s.stage (sym w i)) ∙ f.place in never (cc)
+block_at e es s v u p o f next (trailer w) = let place : None ≡ Some f.stage = (λ i. next_stage (sym p i) s.stage (sym w i)) ∙ f.place in cc
 block_at e es s v u p o f next (inner w) = inner_bare e es s v u w f (next (follows_part s v e f ∙ p) (follows_open s v e w f))
 
 block_bare : (es : List Entry) (s u : Scan) → s.part ≡ part.Block → is_open s.stage ≡ true → Scanned es s u → Bare es s u
@@ -106,7 +106,7 @@ record Split (es : List Entry) (s u : Scan) : Type 0 where
 
 end_stops : (es : List Entry) (v u : Scan) → v.part ≡ part.File → v.stage ≡ at.End → Scanned es v u → (es ≡ []) × (v ≡ u)
 end_stops [] v u p q c = (refl, c)
-end_stops (e ∷ es) v u p q c = never (from_end e.type c.1.stage (sym (λ i. next_stage (p i) (q i) e.type) ∙ c.1.place))
+end_stops (e ∷ es) v u p q c = (let z = from_end e.type c.1.stage (sym (λ i. next_stage (p i) (q i) e.type) ∙ c.1.place) in cc)
 
 split_at : (e : Entry) (es : List Entry) (s v u : Scan) → s.part ≡ part.File → is_open s.stage ≡ true → Follows s v e → Scanned es v u
     → (v.part ≡ part.File → is_open v.stage ≡ true → Split es v u) → Kind e.type → Split (e ∷ es) s u
@@ -137,7 +137,7 @@ split_at e es s v u p o f c next (inner w) =
     record { middle = e ∷ a.middle; ends = ap (λ l. e ∷ l) a.ends; before = a.before; bare = inner_bare e a.middle s v a.before w f a.bare; done = a.done; is = a.is }
 
 split : (es : List Entry) (s u : Scan) → s.part ≡ part.File → is_open s.stage ≡ true → is_end u.stage ≡ true → Scanned es s u → Split es s u
-split [] s u p o d c = never (open_not_end s.stage o (ap (λ z. is_end z.stage) c ∙ d))
+split [] s u p o d c = (let z = open_not_end s.stage o (ap (λ z. is_end z.stage) c ∙ d) in cc)
 split (e ∷ es) s u p o d c = split_at e es s c.0 u p o c.1 c.2 (λ q r. split es c.0 u q r d c.2) (kind_of_lem e.type)
 
 -- a record that leaves x before its stage is set
@@ -187,7 +187,7 @@ record Moving (k : Source) (h : Header) (p : Span) (m : Summary) (u : Scan) (es 
 
 -- the scan has not ended at a stage without whole rows
 not_done : {P : Type 0} (s u : Scan) → rows_done s.stage ≡ false → s ≡ u → rows_done u.stage ≡ true → P
-not_done s u f e d = never (let q = sym f ∙ ap (λ z. rows_done z.stage) e ∙ d in cc)
+not_done s u f e d = (let q = sym f ∙ ap (λ z. rows_done z.stage) e ∙ d in cc)
 
 in_moving : (es : List Entry) (k : Source) (h : Header) (p : Span) (m : Summary) (u : Scan) → AllByRecursion Inner es → Scanned es (state k at.Velocity h p (Some m)) u → rows_done u.stage ≡ true → Moving k h p m u es
 in_moving [] k h p m u i c d = record { more = []; are = refl; chain = tt; header = ap (λ z. z.header) (sym c); span = ap (λ z. z.span) (sym c); summary = ap (λ z. z.summary) (sym c) }
@@ -382,7 +382,7 @@ order_from e es k v u d w c =
     }
 
 pub order_sound : (es : List Entry) (k : ℕ) (u : Scan) → is_end u.stage ≡ true → Scanned es (started part.File (Some k)) u → OrderOf k u es
-order_sound [] k u d c = never (let q : false ≡ true = ap (λ z. is_end z.stage) c ∙ d in cc)
+order_sound [] k u d c = (let q : false ≡ true = ap (λ z. is_end z.stage) c ∙ d in cc)
 order_sound (e ∷ es) k u d c =
     from_start (λ t st. (next : Scan) → taken 0 (started part.File (Some k)) t e.values ≡ Ok next → c.0 ≡ with_stage st next → OrderOf k u (entry t e.values ∷ es))
     (λ next q w. order_from e es k c.0 u d (left_at _ next c.0 at.H1 q w) c.2)

@@ -11,7 +11,7 @@ use Rattle.records.specs.Types.{type_of, is_comment, followed_by, record_of}
 use Rattle.records.specs.Tables.{fields_of}
 use Rattle.records.specs.Reads.{read_on, is_h1, count_fits, read_record}
 use Rattle.format.specs.Format.{type_bytes, Count, Apart, Content, ContentOf, IsRecord, AreWords}
-use Rattle.format.proofs.Common.{never, by_bool}
+use Rattle.numbers.proofs.Taken.{by_bool}
 use Rattle.format.proofs.WordLaws.{words_sound, words_complete}
 
 -- the bytes x and y of the type t were found, or a later test found the type
@@ -31,14 +31,14 @@ type_bytes_lem : (a b : ℕ) (t : Record) → type_of a b ≡ Some t → a ∷ (
 type_bytes_lem a b t e =
     type_at a b 72 49 rec.H1 t _ refl e (λ e. type_at a b 72 50 rec.H2 t _ refl e (λ e. type_at a b 72 51 rec.H3 t _ refl e (λ e. type_at a b 72 53 rec.H5 t _ refl e
     (λ e. type_at a b 72 57 rec.H9 t _ refl e (λ e. type_at a b 49 48 rec.Position t _ refl e (λ e. type_at a b 50 48 rec.Velocity t _ refl e
-    (λ e. type_at a b 48 48 rec.Comment t _ refl e (λ e. type_at a b 57 57 rec.Trailer t None refl e (λ e. never (cc))))))))))
+    (λ e. type_at a b 48 48 rec.Comment t _ refl e (λ e. type_at a b 57 57 rec.Trailer t None refl e (λ e. cc)))))))))
 
 followed : (c : ℕ) (o : Option Record) (t : Record) → followed_by c o ≡ Some t → (o ≡ Some t) × ((eqb c 32 || is_comment t) ≡ true)
-followed c None t e = never (cc)
+followed c None t e = cc
 followed c (Some s) t e =
     by_bool (eqb c 32 || is_comment s)
     (λ h. let q : Some s ≡ Some t = rw h at e in let r : s ≡ t = cc in (ap Some r, subst (λ z. (eqb c 32 || is_comment z) ≡ true) r h))
-    (λ h. let q : None ≡ Some t = rw h at e in never (cc))
+    (λ h. let q : None ≡ Some t = rw h at e in cc)
 
 -- what stands before the rest of the line is its type, and what follows may follow it
 pub record Typed (t : Record) (line : List ℕ) : Type 0 where
@@ -46,8 +46,8 @@ pub record Typed (t : Record) (line : List ℕ) : Type 0 where
   pub apart : (is_comment t ≡ true) ⊎ Apart (drop 2 line)
 
 pub type_sound : (line : List ℕ) (t : Record) → record_of line ≡ Some t → Typed t line
-type_sound [] t e = never (cc)
-type_sound (a ∷ []) t e = never (cc)
+type_sound [] t e = cc
+type_sound (a ∷ []) t e = cc
 type_sound (a ∷ (b ∷ [])) t e = record { bytes = type_bytes_lem a b t e ∙ sym (append-nil (type_bytes t)); apart = inr (inl refl) }
 type_sound (a ∷ (b ∷ (c ∷ rest))) t e =
     let p = followed c (type_of a b) t e in
@@ -70,7 +70,7 @@ reads rec.Trailer c rest = (refl, refl, refl)
 
 space_or : (t : Record) (c : ℕ) (rest : List ℕ) → (is_comment t ≡ true) ⊎ Apart (c ∷ rest) → (eqb c 32 || is_comment t) ≡ true
 space_or t c rest (inl h) = or_right (eqb c 32) (is_comment t) h
-space_or t c rest (inr (inl h)) = never (cc)
+space_or t c rest (inr (inl h)) = cc
 space_or t c rest (inr (inr h)) = or_left (eqb c 32) (is_comment t) (let e = h.1 in eq-eqb c 32 (cc))
 
 pub type_complete : (t : Record) (rest : List ℕ) → (is_comment t ≡ true) ⊎ Apart rest → record_of (type_bytes t ++ rest) ≡ Some t
@@ -79,14 +79,14 @@ type_complete t (c ∷ rest) h = (reads t c rest).1 ∙ rw (space_or t c rest h)
 
 is_h1_lem : (t : Record) → is_h1 t ≡ true → t ≡ rec.H1
 is_h1_lem rec.H1 h = refl
-is_h1_lem rec.H2 h = never (cc)
-is_h1_lem rec.H3 h = never (cc)
-is_h1_lem rec.H5 h = never (cc)
-is_h1_lem rec.H9 h = never (cc)
-is_h1_lem rec.Position h = never (cc)
-is_h1_lem rec.Velocity h = never (cc)
-is_h1_lem rec.Comment h = never (cc)
-is_h1_lem rec.Trailer h = never (cc)
+is_h1_lem rec.H2 h = cc
+is_h1_lem rec.H3 h = cc
+is_h1_lem rec.H5 h = cc
+is_h1_lem rec.H9 h = cc
+is_h1_lem rec.Position h = cc
+is_h1_lem rec.Velocity h = cc
+is_h1_lem rec.Comment h = cc
+is_h1_lem rec.Trailer h = cc
 
 count_sound : (t : Record) (n : ℕ) → count_fits t n ≡ true → Count t n
 count_sound t n h =
@@ -111,7 +111,7 @@ content_sound n t rest vs a p =
     let c = count_sound t (length (words rest)) h in
     let w = words_sound n (fields_of t) (words rest) [] vs (count_most t (length (words rest)) c) q in
     record { apart = a; count = c; values = subst (λ l. AreWords (words rest) (fields_of t) [] l) (sym w.all) w.are })
-    (λ h. let q : ◌≡◌ {A = Result (List Value) Refusal} (Err (WordCount n)) (Ok vs) = rw h at p in never (cc))
+    (λ h. let q : ◌≡◌ {A = Result (List Value) Refusal} (Err (WordCount n)) (Ok vs) = rw h at p in cc)
 
 pub content_complete : (n : ℕ) (t : Record) (rest : List ℕ) (vs : List Value) → Content t rest vs → read_record n t rest ≡ Ok vs
 content_complete n t rest vs c = rw (count_complete t (length (words rest)) c.count) (words_complete n (words rest) (fields_of t) [] vs c.values)
@@ -122,7 +122,7 @@ pub record Reads (t : Record) (line : List ℕ) (vs : List Value) : Type 0 where
   pub found : ((is_comment t ≡ true) × (vs ≡ [])) ⊎ ((is_comment t ≡ false) × ((n : ℕ) → read_record n t (drop 2 line) ≡ Ok vs))
 
 apart_of : (t : Record) (rest : List ℕ) → is_comment t ≡ false → (is_comment t ≡ true) ⊎ Apart rest → Apart rest
-apart_of t rest f (inl h) = never (let e = sym f ∙ h in cc)
+apart_of t rest f (inl h) = (let e = sym f ∙ h in cc)
 apart_of t rest f (inr h) = h
 
 pub record_sound : (n : ℕ) (t : Record) (line : List ℕ) (vs : List Value) → record_of line ≡ Some t → is_comment t ≡ false → read_record n t (drop 2 line) ≡ Ok vs → IsRecord t line vs

@@ -22,11 +22,12 @@ use Rattle.reading.specs.declared.build.Span.{Span}
 use Rattle.reading.specs.declared.stage.Stage.{Stage}
 use Rattle.reading.specs.declared.stage.Part.{Part}
 use Rattle.reading.specs.declared.stage.Part.TheVariants as part
-use Rattle.reading.specs.Builds.{row_of, velocity_of}
+use Rattle.records.specs.Builds.{velocity_of}
+use Rattle.reading.specs.Builds.{row_of}
 use Rattle.reading.specs.Scans.{is_full_at, room_refusal, row_refusal}
 use Rattle.reading.specs.Stores.{with_velocity, completed, with_part}
 use Rattle.format.specs.Format.{Entry, entry, without_comments, maybe, positions, position_rows, Both, pairs, pair_rows, AreRows, plain, moving, Ascend, FlagsStay}
-use Rattle.format.proofs.Common.{never, by_bool}
+use Rattle.numbers.proofs.Taken.{by_bool}
 use Rattle.format.proofs.StepLaws.{is_comment_lem, part_by, rows_by}
 
 -- what is read, and how many rows there is room for
@@ -65,12 +66,12 @@ pub record May (k : Source) (m : Summary) (r : Row) : Type 0 where
   pub room : RoomAfter k m.count
 
 refused_not : (b : Bool) (x : Refusal) (a : Result (Unit {0}) Refusal) → cond b (Err x) a ≡ Ok tt → (b ≡ false) × (a ≡ Ok tt)
-refused_not true x a q = never (cc)
+refused_not true x a q = cc
 refused_not false x a q = (refl, q)
 
 accepted : (b : Bool) (x : Refusal) (a : Result (Unit {0}) Refusal) → cond b a (Err x) ≡ Ok tt → (b ≡ true) × (a ≡ Ok tt)
 accepted true x a q = (refl, q)
-accepted false x a q = never (cc)
+accepted false x a q = cc
 
 pub may_sound : (k : Source) (st : Stage) (h : Header) (p : Span) (m : Summary) (r : Row) → row_refusal 0 (state k st h p (Some m)) r ≡ Ok tt → May k m r
 may_sound k st h p m r q =
@@ -112,10 +113,10 @@ Stays f rs = (f ≡ NoLeap) ⊎ AllByRecursion (λ s. s.flag ≡ f) rs
 allows_cases : (f g : LeapFlag) → allows f g ≡ true → (f ≡ NoLeap) ⊎ (g ≡ f)
 allows_cases NoLeap g h = inl refl
 allows_cases Removed Removed h = inr refl
-allows_cases Removed NoLeap h = never (cc)
-allows_cases Removed Added h = never (cc)
-allows_cases Added Removed h = never (cc)
-allows_cases Added NoLeap h = never (cc)
+allows_cases Removed NoLeap h = cc
+allows_cases Removed Added h = cc
+allows_cases Added Removed h = cc
+allows_cases Added NoLeap h = cc
 allows_cases Added Added h = inr refl
 
 same_allows : (f : LeapFlag) → allows f f ≡ true

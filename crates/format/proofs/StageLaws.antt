@@ -9,7 +9,6 @@ use Rattle.reading.specs.declared.stage.Part.{Part}
 use Rattle.reading.specs.declared.stage.Part.TheVariants.{File}
 use Rattle.reading.specs.Order.{after_h1, after_h2, after_h3, after_h5, after_h9, after_position, after_velocity, after_comment, next_stage}
 use Rattle.reading.specs.Ends.{is_end}
-use Rattle.format.proofs.Common.{never}
 
 by_record_lem : (P : Record → Type 0) → P rec.H1 → P rec.H2 → P rec.H3 → P rec.H5 → P rec.H9 → P rec.Position → P rec.Velocity → P rec.Comment → P rec.Trailer → (t : Record) → P t
 by_record_lem P a b c d e f g h i rec.H1 = a
@@ -56,7 +55,7 @@ pub kind_of_lem : (t : Record) → Kind t
 kind_of_lem = by_record_lem Kind (inner refl) (inner refl) (inner refl) (inner refl) (inner refl) (inner refl) (inner refl) (comment refl) (trailer refl)
 
 pub inner_says : (t : Record) → is_inner t ≡ true → is_comment t ≡ false
-inner_says = by_record_lem (λ t. is_inner t ≡ true → is_comment t ≡ false) (λ i. refl) (λ i. refl) (λ i. refl) (λ i. refl) (λ i. refl) (λ i. refl) (λ i. refl) (λ i. never (cc)) (λ i. refl)
+inner_says = by_record_lem (λ t. is_inner t ≡ true → is_comment t ≡ false) (λ i. refl) (λ i. refl) (λ i. refl) (λ i. refl) (λ i. refl) (λ i. refl) (λ i. refl) (λ i. cc) (λ i. refl)
 
 -- after H1 and before the trailer
 abbrev pub is_open : Stage → Bool
@@ -84,15 +83,15 @@ inner_opens q rec.H5 i = by_stage_lem (λ z. opens (after_h5 z) ≡ true) refl r
 inner_opens q rec.H9 i = by_stage_lem (λ z. opens (after_h9 z) ≡ true) refl refl refl refl refl refl refl refl refl refl refl
 inner_opens q rec.Position i = by_stage_lem (λ z. opens (after_position z) ≡ true) refl refl refl refl refl refl refl refl refl refl refl
 inner_opens q rec.Velocity i = by_stage_lem (λ z. opens (after_velocity z) ≡ true) refl refl refl refl refl refl refl refl refl refl refl
-inner_opens q rec.Comment i = never (cc)
-inner_opens q rec.Trailer i = never (cc)
+inner_opens q rec.Comment i = cc
+inner_opens q rec.Trailer i = cc
 
 pub goes_open : (q : Part) (t : Record) (st next : Stage) → is_inner t ≡ true → next_stage q st t ≡ Some next → is_open next ≡ true
 goes_open q t st next i e = ap opens (sym e) ∙ inner_opens q t i st
 
 pub comment_stays : (st : Stage) → is_open st ≡ true → after_comment st ≡ Some st
 comment_stays =
-    by_stage_lem (λ z. is_open z ≡ true → after_comment z ≡ Some z) (λ o. never (cc)) (λ o. refl) (λ o. refl) (λ o. refl) (λ o. refl) (λ o. refl) (λ o. refl) (λ o. refl) (λ o. refl) (λ o. refl) (λ o. never (cc))
+    by_stage_lem (λ z. is_open z ≡ true → after_comment z ≡ Some z) (λ o. cc) (λ o. refl) (λ o. refl) (λ o. refl) (λ o. refl) (λ o. refl) (λ o. refl) (λ o. refl) (λ o. refl) (λ o. refl) (λ o. cc)
 
 pub open_not_end : (st : Stage) → is_open st ≡ true → is_end st ≡ true → ◌≡◌ {A = ℕ} 0 1
 open_not_end =
@@ -104,7 +103,7 @@ from_end = by_record_lem (λ t. (st : Stage) → next_stage File at.End t ≡ So
 
 pub trailer_place : (b : Bool) (st : Stage) → cond b (Some at.End) None ≡ Some st → (b ≡ true) × (st ≡ at.End)
 trailer_place true st e = (refl, cc)
-trailer_place false st e = never (cc)
+trailer_place false st e = cc
 
 -- what may come at a stage
 module _ (P : Record → Stage → Type 0) where
@@ -114,50 +113,50 @@ module _ (P : Record → Stage → Type 0) where
   pub from_start : P rec.H1 at.H1 → (t : Record) (st : Stage) → next_stage File at.Start t ≡ Some st → P t st
   from_start p =
       by_record_lem (λ t. (st : Stage) → next_stage File at.Start t ≡ Some st → P t st)
-      (λ st e. to rec.H1 st at.H1 e p) (λ st e. never (cc)) (λ st e. never (cc)) (λ st e. never (cc)) (λ st e. never (cc)) (λ st e. never (cc)) (λ st e. never (cc)) (λ st e. never (cc)) (λ st e. never (cc))
+      (λ st e. to rec.H1 st at.H1 e p) (λ st e. cc) (λ st e. cc) (λ st e. cc) (λ st e. cc) (λ st e. cc) (λ st e. cc) (λ st e. cc) (λ st e. cc)
 
 module _ (q : Part) (P : Record → Stage → Type 0) where
   pub from_h1 : P rec.H2 at.H2 → (t : Record) (st : Stage) → is_inner t ≡ true → next_stage q at.H1 t ≡ Some st → P t st
   from_h1 p =
       by_record_lem (λ t. (st : Stage) → is_inner t ≡ true → next_stage q at.H1 t ≡ Some st → P t st)
-      (λ st i e. never (cc)) (λ st i e. to P rec.H2 st at.H2 e p) (λ st i e. never (cc)) (λ st i e. never (cc)) (λ st i e. never (cc)) (λ st i e. never (cc)) (λ st i e. never (cc)) (λ st i e. never (cc)) (λ st i e. never (cc))
+      (λ st i e. cc) (λ st i e. to P rec.H2 st at.H2 e p) (λ st i e. cc) (λ st i e. cc) (λ st i e. cc) (λ st i e. cc) (λ st i e. cc) (λ st i e. cc) (λ st i e. cc)
 
   pub from_h2 : P rec.H3 at.H3 → P rec.H5 at.H5 → P rec.H9 at.H9 → (t : Record) (st : Stage) → is_inner t ≡ true → next_stage q at.H2 t ≡ Some st → P t st
   from_h2 p f r =
       by_record_lem (λ t. (st : Stage) → is_inner t ≡ true → next_stage q at.H2 t ≡ Some st → P t st)
-      (λ st i e. never (cc)) (λ st i e. never (cc)) (λ st i e. to P rec.H3 st at.H3 e p) (λ st i e. to P rec.H5 st at.H5 e f) (λ st i e. to P rec.H9 st at.H9 e r) (λ st i e. never (cc)) (λ st i e. never (cc)) (λ st i e. never (cc)) (λ st i e. never (cc))
+      (λ st i e. cc) (λ st i e. cc) (λ st i e. to P rec.H3 st at.H3 e p) (λ st i e. to P rec.H5 st at.H5 e f) (λ st i e. to P rec.H9 st at.H9 e r) (λ st i e. cc) (λ st i e. cc) (λ st i e. cc) (λ st i e. cc)
 
   pub from_h3 : P rec.H5 at.H5 → P rec.H9 at.H9 → (t : Record) (st : Stage) → is_inner t ≡ true → next_stage q at.H3 t ≡ Some st → P t st
   from_h3 f r =
       by_record_lem (λ t. (st : Stage) → is_inner t ≡ true → next_stage q at.H3 t ≡ Some st → P t st)
-      (λ st i e. never (cc)) (λ st i e. never (cc)) (λ st i e. never (cc)) (λ st i e. to P rec.H5 st at.H5 e f) (λ st i e. to P rec.H9 st at.H9 e r) (λ st i e. never (cc)) (λ st i e. never (cc)) (λ st i e. never (cc)) (λ st i e. never (cc))
+      (λ st i e. cc) (λ st i e. cc) (λ st i e. cc) (λ st i e. to P rec.H5 st at.H5 e f) (λ st i e. to P rec.H9 st at.H9 e r) (λ st i e. cc) (λ st i e. cc) (λ st i e. cc) (λ st i e. cc)
 
   pub from_h5 : P rec.H9 at.H9 → (t : Record) (st : Stage) → is_inner t ≡ true → next_stage q at.H5 t ≡ Some st → P t st
   from_h5 r =
       by_record_lem (λ t. (st : Stage) → is_inner t ≡ true → next_stage q at.H5 t ≡ Some st → P t st)
-      (λ st i e. never (cc)) (λ st i e. never (cc)) (λ st i e. never (cc)) (λ st i e. never (cc)) (λ st i e. to P rec.H9 st at.H9 e r) (λ st i e. never (cc)) (λ st i e. never (cc)) (λ st i e. never (cc)) (λ st i e. never (cc))
+      (λ st i e. cc) (λ st i e. cc) (λ st i e. cc) (λ st i e. cc) (λ st i e. to P rec.H9 st at.H9 e r) (λ st i e. cc) (λ st i e. cc) (λ st i e. cc) (λ st i e. cc)
 
   pub from_h9 : P rec.Position at.FirstPosition → (t : Record) (st : Stage) → is_inner t ≡ true → next_stage q at.H9 t ≡ Some st → P t st
   from_h9 p =
       by_record_lem (λ t. (st : Stage) → is_inner t ≡ true → next_stage q at.H9 t ≡ Some st → P t st)
-      (λ st i e. never (cc)) (λ st i e. never (cc)) (λ st i e. never (cc)) (λ st i e. never (cc)) (λ st i e. never (cc)) (λ st i e. to P rec.Position st at.FirstPosition e p) (λ st i e. never (cc)) (λ st i e. never (cc)) (λ st i e. never (cc))
+      (λ st i e. cc) (λ st i e. cc) (λ st i e. cc) (λ st i e. cc) (λ st i e. cc) (λ st i e. to P rec.Position st at.FirstPosition e p) (λ st i e. cc) (λ st i e. cc) (λ st i e. cc)
 
   pub from_first : P rec.Position at.Position → P rec.Velocity at.Velocity → (t : Record) (st : Stage) → is_inner t ≡ true → next_stage q at.FirstPosition t ≡ Some st → P t st
   from_first p v =
       by_record_lem (λ t. (st : Stage) → is_inner t ≡ true → next_stage q at.FirstPosition t ≡ Some st → P t st)
-      (λ st i e. never (cc)) (λ st i e. never (cc)) (λ st i e. never (cc)) (λ st i e. never (cc)) (λ st i e. never (cc)) (λ st i e. to P rec.Position st at.Position e p) (λ st i e. to P rec.Velocity st at.Velocity e v) (λ st i e. never (cc)) (λ st i e. never (cc))
+      (λ st i e. cc) (λ st i e. cc) (λ st i e. cc) (λ st i e. cc) (λ st i e. cc) (λ st i e. to P rec.Position st at.Position e p) (λ st i e. to P rec.Velocity st at.Velocity e v) (λ st i e. cc) (λ st i e. cc)
 
   pub from_position : P rec.Position at.Position → (t : Record) (st : Stage) → is_inner t ≡ true → next_stage q at.Position t ≡ Some st → P t st
   from_position p =
       by_record_lem (λ t. (st : Stage) → is_inner t ≡ true → next_stage q at.Position t ≡ Some st → P t st)
-      (λ st i e. never (cc)) (λ st i e. never (cc)) (λ st i e. never (cc)) (λ st i e. never (cc)) (λ st i e. never (cc)) (λ st i e. to P rec.Position st at.Position e p) (λ st i e. never (cc)) (λ st i e. never (cc)) (λ st i e. never (cc))
+      (λ st i e. cc) (λ st i e. cc) (λ st i e. cc) (λ st i e. cc) (λ st i e. cc) (λ st i e. to P rec.Position st at.Position e p) (λ st i e. cc) (λ st i e. cc) (λ st i e. cc)
 
   pub from_velocity : P rec.Position at.AwaitsVelocity → (t : Record) (st : Stage) → is_inner t ≡ true → next_stage q at.Velocity t ≡ Some st → P t st
   from_velocity p =
       by_record_lem (λ t. (st : Stage) → is_inner t ≡ true → next_stage q at.Velocity t ≡ Some st → P t st)
-      (λ st i e. never (cc)) (λ st i e. never (cc)) (λ st i e. never (cc)) (λ st i e. never (cc)) (λ st i e. never (cc)) (λ st i e. to P rec.Position st at.AwaitsVelocity e p) (λ st i e. never (cc)) (λ st i e. never (cc)) (λ st i e. never (cc))
+      (λ st i e. cc) (λ st i e. cc) (λ st i e. cc) (λ st i e. cc) (λ st i e. cc) (λ st i e. to P rec.Position st at.AwaitsVelocity e p) (λ st i e. cc) (λ st i e. cc) (λ st i e. cc)
 
   pub from_awaiting : P rec.Velocity at.Velocity → (t : Record) (st : Stage) → is_inner t ≡ true → next_stage q at.AwaitsVelocity t ≡ Some st → P t st
   from_awaiting p =
       by_record_lem (λ t. (st : Stage) → is_inner t ≡ true → next_stage q at.AwaitsVelocity t ≡ Some st → P t st)
-      (λ st i e. never (cc)) (λ st i e. never (cc)) (λ st i e. never (cc)) (λ st i e. never (cc)) (λ st i e. never (cc)) (λ st i e. never (cc)) (λ st i e. to P rec.Velocity st at.Velocity e p) (λ st i e. never (cc)) (λ st i e. never (cc))
+      (λ st i e. cc) (λ st i e. cc) (λ st i e. cc) (λ st i e. cc) (λ st i e. cc) (λ st i e. cc) (λ st i e. to P rec.Velocity st at.Velocity e p) (λ st i e. cc) (λ st i e. cc)

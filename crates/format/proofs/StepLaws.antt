@@ -18,13 +18,14 @@ use Rattle.reading.specs.declared.stage.Stage.{Stage}
 use Rattle.reading.specs.declared.part.RowPart.{RowPart}
 use Rattle.reading.specs.declared.part.RowPart.TheVariants as parts
 use Rattle.reading.specs.Order.{next_stage}
-use Rattle.reading.specs.Builds.{row_of, velocity_of}
+use Rattle.records.specs.Builds.{velocity_of}
+use Rattle.reading.specs.Builds.{row_of}
 use Rattle.reading.specs.Scans.{row_count, is_full_at, room_refusal, row_refusal_after, row_refusal, with_row, on_ok, taken, taken_if, at_stage, with_stage, content_step, by_stage, by_record, line_step}
 use Rattle.reading.specs.Ends.{end_refusal}
 use Rattle.reading.specs.Texts.{scan_end_by, on_scan, scan_lines}
 use Rattle.reading.specs.Stores.{with_part, position_part, velocity_part, part_by_record, part_by_type, part_of, rows_with, rows_on}
 use Rattle.format.specs.Format.{IsRecord, Entry, entry, AreRecords}
-use Rattle.format.proofs.Common.{never, by_bool}
+use Rattle.numbers.proofs.Taken.{by_bool}
 use Rattle.format.proofs.RecordLaws.{Reads, record_sound, comment_sound, record_complete, bare_record}
 
 abbrev Checked : Type 0
@@ -32,12 +33,12 @@ Checked = Result (Unit {0}) Refusal
 
 -- whether a test refuses does not depend on the refusal that it gives
 refuse_any : (b : Bool) (x y : Refusal) (a c : Checked) → (a ≡ Ok tt → c ≡ Ok tt) → cond b (Err x) a ≡ Ok tt → cond b (Err y) c ≡ Ok tt
-refuse_any true x y a c f q = never (cc)
+refuse_any true x y a c f q = cc
 refuse_any false x y a c f q = f q
 
 accept_any : (b : Bool) (x y : Refusal) (a c : Checked) → (a ≡ Ok tt → c ≡ Ok tt) → cond b a (Err x) ≡ Ok tt → cond b c (Err y) ≡ Ok tt
 accept_any true x y a c f q = f q
-accept_any false x y a c f q = never (cc)
+accept_any false x y a c f q = cc
 
 room_any : (n m : ℕ) (s : Scan) → room_refusal n s ≡ Ok tt → room_refusal m s ≡ Ok tt
 room_any n m s q = refuse_any (is_full_at s.room (row_count s)) (TooManyRows n) (TooManyRows m) (Ok tt) (Ok tt) (λ e. e) q
@@ -50,7 +51,7 @@ row_any n m s r (Some b) q =
 
 on_ok_lem : (a b : Checked) (s v : Scan) → (a ≡ Ok tt → b ≡ Ok tt) → on_ok a s ≡ Ok v → on_ok b s ≡ Ok v
 on_ok_lem (Ok x) b s v f q = ap (λ z. on_ok z s) (f refl) ∙ q
-on_ok_lem (Err e) b s v f q = never (cc)
+on_ok_lem (Err e) b s v f q = cc
 
 -- nor on the number of the line
 taken_any : (n m : ℕ) (s v : Scan) (t : Record) (vs : List Value) → taken n s t vs ≡ Ok v → taken m s t vs ≡ Ok v
@@ -74,16 +75,16 @@ pub record Follows (s u : Scan) (e : Entry) : Type 0 where
   pub bare : is_comment e.type ≡ false → fields_of e.type ≡ [] → e.values ≡ []
 
 -- what a record says of the rows
-abbrev pub part_by : Record → List Value → RowPart
-part_by rec.H1 vs = parts.Nothing
-part_by rec.H2 vs = parts.Nothing
-part_by rec.H3 vs = parts.Nothing
-part_by rec.H5 vs = parts.Nothing
-part_by rec.H9 vs = parts.Nothing
-part_by rec.Position vs = parts.Position (row_of vs)
-part_by rec.Velocity vs = parts.Velocity (velocity_of vs)
-part_by rec.Comment vs = parts.Nothing
-part_by rec.Trailer vs = parts.Nothing
+abbrev pub part_by : Record → List Value → Option RowPart
+part_by rec.H1 vs = None
+part_by rec.H2 vs = None
+part_by rec.H3 vs = None
+part_by rec.H5 vs = None
+part_by rec.H9 vs = None
+part_by rec.Position vs = Some (parts.Position (row_of vs))
+part_by rec.Velocity vs = Some (parts.Velocity (velocity_of vs))
+part_by rec.Comment vs = None
+part_by rec.Trailer vs = None
 
 part_is : (n : ℕ) (rest : List ℕ) (t : Record) (vs : List Value) → read_record n t rest ≡ Ok vs → part_by_record n rest t ≡ part_by t vs
 part_is n rest rec.H1 vs e = refl
@@ -97,15 +98,15 @@ part_is n rest rec.Comment vs e = refl
 part_is n rest rec.Trailer vs e = refl
 
 pub is_comment_lem : (t : Record) → is_comment t ≡ true → t ≡ rec.Comment
-is_comment_lem rec.H1 h = never (cc)
-is_comment_lem rec.H2 h = never (cc)
-is_comment_lem rec.H3 h = never (cc)
-is_comment_lem rec.H5 h = never (cc)
-is_comment_lem rec.H9 h = never (cc)
-is_comment_lem rec.Position h = never (cc)
-is_comment_lem rec.Velocity h = never (cc)
+is_comment_lem rec.H1 h = cc
+is_comment_lem rec.H2 h = cc
+is_comment_lem rec.H3 h = cc
+is_comment_lem rec.H5 h = cc
+is_comment_lem rec.H9 h = cc
+is_comment_lem rec.Position h = cc
+is_comment_lem rec.Velocity h = cc
 is_comment_lem rec.Comment h = refl
-is_comment_lem rec.Trailer h = never (cc)
+is_comment_lem rec.Trailer h = cc
 
 -- the line is an entry that takes the scan from s to u
 record StepOf (n : ℕ) (l : List ℕ) (s u : Scan) : Type 0 where
@@ -116,7 +117,7 @@ record StepOf (n : ℕ) (l : List ℕ) (s u : Scan) : Type 0 where
 
 step_taken : (n : ℕ) (l : List ℕ) (s u v : Scan) (t : Record) (st : Stage) (r : Result (List Value) Refusal) → record_of l ≡ Some t → next_stage s.part s.stage t ≡ Some st → is_comment t ≡ false
     → read_record n t (drop 2 l) ≡ r → taken_if n s t r ≡ Ok v → u ≡ with_stage st v → StepOf n l s u
-step_taken n l s u v t st (Err e) i p c d q w = never (cc)
+step_taken n l s u v t st (Err e) i p c d q w = cc
 step_taken n l s u v t st (Ok vs) i p c d q w =
     record {
       found = entry t vs;
@@ -127,7 +128,7 @@ step_taken n l s u v t st (Ok vs) i p c d q w =
 
 step_content : (n : ℕ) (l : List ℕ) (s u : Scan) (t : Record) (st : Stage) (r : Result Scan Refusal) → record_of l ≡ Some t → next_stage s.part s.stage t ≡ Some st
     → content_step n s t (drop 2 l) ≡ r → at_stage st r ≡ Ok u → StepOf n l s u
-step_content n l s u t st (Err e) i p d q = never (cc)
+step_content n l s u t st (Err e) i p d q = cc
 step_content n l s u t st (Ok v) i p d q =
     let w : u ≡ with_stage st v = cc in
     by_bool (is_comment t)
@@ -142,11 +143,11 @@ step_content n l s u t st (Ok v) i p d q =
     (λ h. step_taken n l s u v t st (read_record n t (drop 2 l)) i p h refl (rw h at d) w)
 
 step_place : (n : ℕ) (l : List ℕ) (s u : Scan) (t : Record) (o : Option Stage) → record_of l ≡ Some t → next_stage s.part s.stage t ≡ o → by_stage n l s t o ≡ Ok u → StepOf n l s u
-step_place n l s u t None i p q = never (cc)
+step_place n l s u t None i p q = cc
 step_place n l s u t (Some st) i p q = step_content n l s u t st (content_step n s t (drop 2 l)) i p refl q
 
 step_type : (n : ℕ) (l : List ℕ) (s u : Scan) (o : Option Record) → record_of l ≡ o → by_record n l s o ≡ Ok u → StepOf n l s u
-step_type n l s u None i q = never (cc)
+step_type n l s u None i q = cc
 step_type n l s u (Some t) i q = step_place n l s u t (next_stage s.part s.stage t) i refl q
 
 step_sound : (n : ℕ) (l : List ℕ) (s u : Scan) → line_step n l s ≡ Ok u → StepOf n l s u
@@ -188,14 +189,14 @@ pub record LinesOf (n : ℕ) (ls : List (List ℕ)) (how : Ending) (s u : Scan) 
   pub rows : (rows : List Row) → rows_on n ls rows ≡ rows_by entries rows
 
 end_at : (n : ℕ) (s u : Scan) (a : Checked) → end_refusal s n ≡ a → on_ok a s ≡ Ok u → LinesOf n [] at_line s u
-end_at n s u (Err e) h q = never (cc)
+end_at n s u (Err e) h q = cc
 end_at n s u (Ok x) h q =
     let w : s ≡ u = cc in
     record { ending = refl; entries = []; are = tt; scanned = w; last = n; end = subst (λ z. end_refusal z n ≡ Ok tt) w h; rows = λ rows. refl }
 
 lines_on : (n : ℕ) (l : List ℕ) (ls : List (List ℕ)) (how : Ending) (s u : Scan) (r : Result Scan Refusal) → line_step (n + 1) l s ≡ r
     → ((v : Scan) → scan_lines (n + 1) ls how v ≡ Ok u → LinesOf (n + 1) ls how v u) → on_scan r (λ t. scan_lines (n + 1) ls how t) ≡ Ok u → LinesOf n (l ∷ ls) how s u
-lines_on n l ls how s u (Err e) h next q = never (cc)
+lines_on n l ls how s u (Err e) h next q = cc
 lines_on n l ls how s u (Ok v) h next q =
     let a = step_sound (n + 1) l s v h in
     let b = next v q in
@@ -211,8 +212,8 @@ lines_on n l ls how s u (Ok v) h next q =
 
 pub lines_sound : (n : ℕ) (ls : List (List ℕ)) (how : Ending) (s u : Scan) → scan_lines n ls how s ≡ Ok u → LinesOf n ls how s u
 lines_sound n [] at_line s u q = end_at n s u (end_refusal s n) refl q
-lines_sound n [] forbidden s u q = never (cc)
-lines_sound n [] too_long s u q = never (cc)
+lines_sound n [] forbidden s u q = cc
+lines_sound n [] too_long s u q = cc
 lines_sound n (l ∷ ls) how s u q = lines_on n l ls how s u (line_step (n + 1) l s) refl (λ v p. lines_sound (n + 1) ls how v u p) q
 
 pub lines_complete : (n : ℕ) (ls : List (List ℕ)) (es : List Entry) (s u : Scan) → AreRecords ls es → Scanned es s u → ((k : ℕ) → end_refusal u k ≡ Ok tt) → scan_lines n ls at_line s ≡ Ok u

@@ -4,7 +4,6 @@ use Rattle.std.specs.List.{AllByRecursion}
 use Rattle.std.proofs.lemmas.Bool.{cond_both, eqb-true, leb-true, le-leb, ltb-false, ne_eqb, le-ltb}
 use Rattle.lines.specs.Texts.{at_line, Text, on_line, text_on, text_of}
 use Rattle.format.specs.Format.{unlines, Printable, IsLine, IsText}
-use Rattle.format.proofs.Common.{never}
 
 all_push : (l : List ℕ) (b : ℕ) → AllByRecursion Printable l → Printable b → AllByRecursion Printable (l ++ (b ∷ []))
 all_push [] b p q = (q, tt)
@@ -13,15 +12,15 @@ all_push (c ∷ l) b p q = (p.0, all_push l b p.1 q)
 -- the bytes bs after those of a line
 text_from : (line bs : List ℕ) → AllByRecursion Printable line → (text_on line bs).ending ≡ at_line → (line ++ bs ≡ unlines (text_on line bs).lines) × AllByRecursion IsLine (text_on line bs).lines
 text_from [] [] p e = (refl, tt)
-text_from (c ∷ line) [] p e = never (cc)
+text_from (c ∷ line) [] p e = cc
 text_from line (b ∷ bs) p e =
     let P : Text → Type 0 = λ x. x.ending ≡ at_line → (line ++ (b ∷ bs) ≡ unlines x.lines) × AllByRecursion IsLine x.lines in
     cond_both (eqb b 10) _ _ P
     (λ t. cond_both (leb (length line) 128) _ _ P
     (λ u e. let q = text_from [] bs tt e in (ap (λ z. line ++ (z ∷ bs)) (eqb-true b 10 t) ∙ ap (λ z. line ++ (10 ∷ z)) q.0, (record { printable = p; short = leb-true (length line) 128 u }, q.1)))
-    (λ u e. never (cc)))
-    (λ _. cond_both (ltb b 32) _ _ P (λ u e. never (cc))
-    (λ low. cond_both (ltb 126 b) _ _ P (λ u e. never (cc))
+    (λ u e. cc))
+    (λ _. cond_both (ltb b 32) _ _ P (λ u e. cc)
+    (λ low. cond_both (ltb 126 b) _ _ P (λ u e. cc)
     (λ high e. let q = text_from (line ++ (b ∷ [])) bs (all_push line b p (ltb-false b 32 low, ltb-false 126 b high)) e in (sym (append_assoc line (b ∷ []) bs) ∙ q.0, q.1)))) e
 
 pub text_sound : (bs : List ℕ) → (text_of bs).ending ≡ at_line → IsText bs (text_of bs).lines

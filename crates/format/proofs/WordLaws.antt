@@ -17,7 +17,7 @@ use Rattle.records.specs.declared.field.Value.TheVariants.{Number, Text}
 use Rattle.records.specs.Fields.{is_name_byte, all_name_bytes, is_cpf, in_bounds, number_if, day_if, last_day, value_by, field_value}
 use Rattle.records.specs.Reads.{onward, read_on}
 use Rattle.format.specs.Format.{NameByte, Within, IsWordBy, IsWord, AreWords}
-use Rattle.format.proofs.Common.{never, chosen, le_of, of_le}
+use Rattle.format.proofs.Common.{chosen, le_of, of_le}
 
 between : (a b x : ℕ) → (leb a x && leb x b) ≡ true → (a ≤ x) × (x ≤ b)
 between a b x h = let p = and_parts (leb a x) (leb x b) h in (leb-true a x p.0, leb-true x b p.1)
@@ -44,9 +44,9 @@ are_name_bytes [] h = refl
 are_name_bytes (b ∷ w) h = and_from (is_name_byte b) (all_name_bytes w) (is_name_byte_lem b h.0) (are_name_bytes w h.1)
 
 cpf_bytes : (w : List ℕ) → is_cpf w ≡ true → w ≡ 67 ∷ (80 ∷ (70 ∷ []))
-cpf_bytes [] h = never (cc)
-cpf_bytes (a ∷ []) h = never (cc)
-cpf_bytes (a ∷ (b ∷ [])) h = never (cc)
+cpf_bytes [] h = cc
+cpf_bytes (a ∷ []) h = cc
+cpf_bytes (a ∷ (b ∷ [])) h = cc
 cpf_bytes (a ∷ (b ∷ (c ∷ []))) h =
     let p = and_parts (eqb a 67) (eqb b 80 && eqb c 70) h in
     let q = and_parts (eqb b 80) (eqb c 70) p.1 in
@@ -54,7 +54,7 @@ cpf_bytes (a ∷ (b ∷ (c ∷ []))) h =
     let y = eqb-true b 80 q.0 in
     let z = eqb-true c 70 q.1 in
     λ i. x i ∷ (y i ∷ (z i ∷ []))
-cpf_bytes (a ∷ (b ∷ (c ∷ (d ∷ w)))) h = never (cc)
+cpf_bytes (a ∷ (b ∷ (c ∷ (d ∷ w)))) h = cc
 
 within : (f : Field) (z : ℤ) → in_bounds f z ≡ true → Within f z
 within f z h = let p = and_parts (le_z f.least z) (le_z z f.greatest) h in (le_of f.least z p.0, le_of z f.greatest p.1)
@@ -63,11 +63,11 @@ is_within : (f : Field) (z : ℤ) → Within f z → in_bounds f z ≡ true
 is_within f z h = and_from (le_z f.least z) (le_z z f.greatest) (of_le f.least z h.0) (of_le z f.greatest h.1)
 
 number_from : (f : Field) (o : Option ℤ) (v : Value) → number_if f o ≡ Ok v → (z : ℤ) × (o ≡ Some z) × Within f z × (v ≡ Number z)
-number_from f None v p = never (cc)
+number_from f None v p = cc
 number_from f (Some z) v p = let q = chosen (in_bounds f z) (Number z) v _ p in (z, refl, within f z q.0, sym q.1)
 
 day_from : (f : Field) (last : ℕ) (o : Option ℤ) (v : Value) → day_if f last o ≡ Ok v → (z : ℤ) × (o ≡ Some z) × Within f z × (z ≤ℤ pos last) × (v ≡ Number z)
-day_from f last None v p = never (cc)
+day_from f last None v p = cc
 day_from f last (Some z) v p =
     let q = chosen (in_bounds f z && le_z z (pos last)) (Number z) v _ p in
     let r = and_parts (in_bounds f z) (le_z z (pos last)) q.0 in
@@ -117,7 +117,7 @@ no_more fs acc vs p = let e : vs ≡ acc = cc in record { more = []; all = e ∙
 on_value : (line : ℕ) (f : Field) (fs : List Field) (w : List ℕ) (ws : List (List ℕ)) (acc vs : List Value) (r : Result Value Fault) → field_value f w acc ≡ r
     → ((v : Value) → read_on line fs ws (acc ++ (v ∷ [])) ≡ Ok vs → Adds ws fs (acc ++ (v ∷ [])) vs)
     → onward r line (length acc + 2) (λ v. read_on line fs ws (acc ++ (v ∷ []))) ≡ Ok vs → Adds (w ∷ ws) (f ∷ fs) acc vs
-on_value line f fs w ws acc vs (Err e) q next p = never (cc)
+on_value line f fs w ws acc vs (Err e) q next p = cc
 on_value line f fs w ws acc vs (Ok v) q next p =
     let a = next v p in
     record { more = v ∷ a.more; all = a.all ∙ append_assoc acc (v ∷ []) a.more; are = (word_sound f w acc v q, a.are) }

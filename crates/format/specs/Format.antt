@@ -21,7 +21,8 @@ use Rattle.records.specs.declared.field.Value.TheVariants.{Number, Text}
 use Rattle.records.specs.Fields.{last_day}
 use Rattle.records.specs.Tables.{fields_of}
 use Rattle.records.specs.Types.{is_comment}
-use Rattle.reading.specs.Builds.{origin_of, satellite_of, accuracy_of, offset_of, row_of, velocity_of, span_of}
+use Rattle.records.specs.Builds.{origin_of, satellite_of, accuracy_of, offset_of, velocity_of}
+use Rattle.reading.specs.Builds.{row_of, span_of}
 use Rattle.reading.specs.Ends.{span_agrees}
 use Rattle.reading.specs.Stores.{with_velocity}
 

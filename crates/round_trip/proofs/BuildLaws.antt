@@ -11,8 +11,10 @@ use Rattle.model.specs.declared.header.Origin.{Origin}
 use Rattle.model.specs.declared.header.Satellite.{Satellite}
 use Rattle.model.specs.declared.header.Accuracy.{Accuracy}
 use Rattle.model.specs.declared.header.Offset.{Offset}
-use Rattle.reading.specs.Builds.{origin_of, satellite_of, accuracy_of, offset_of, flag_of, row_of, velocity_of}
-use Rattle.writing.specs.Values.{origin_values, satellite_values, accuracy_values, offset_values, flag_number, position_values, velocity_values}
+use Rattle.records.specs.Builds.{origin_of, satellite_of, accuracy_of, offset_of, velocity_of}
+use Rattle.model.specs.Flags.{flag_number, flag_of}
+use Rattle.reading.specs.Builds.{row_of}
+use Rattle.writing.specs.Values.{origin_values, satellite_values, accuracy_values, offset_values, position_values, velocity_values}
 
 abbrev with_notes : Origin → Option Name → Origin
 with_notes o n = record { source = o.source; year = o.year; month = o.month; day = o.day; hour = o.hour; sequence = o.sequence; sub_daily = o.sub_daily; target = o.target; notes = n }

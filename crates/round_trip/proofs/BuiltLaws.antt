@@ -1,10 +1,12 @@
 -- What is built from good values has these values.
-use Rattle.std.proofs.Common.{◌≡◌, ℕ, zero, suc, ◌+◌, ◌<◌, ◌≤◌, Bool, true, false, ◌&&◌, ◌||◌, eqb, ltb, leb, List, [], ◌∷◌, ◌++◌, length, take, drop, ℤ, pos, negsuc, nat_abs, sym, refl, ap, ◌∙◌, subst, ⊎_elim, append_assoc, append-nil, arith}
+use Rattle.std.proofs.Common.{◌≡◌, ℕ, zero, suc, ◌+◌, ◌<◌, ◌≤◌, Bool, true, false, ◌&&◌, ◌||◌, eqb, ltb, leb, List, [], ◌∷◌, ◌++◌, length, get_or, take, drop, ℤ, pos, negsuc, nat_abs, sym, refl, ap, ◌∙◌, subst, ⊎_elim, append_assoc, append-nil, arith}
 use lib.Signed.{le_z}
 use Rattle.std.proofs.lemmas.List.{drop_more, drop_all}
 use Rattle.std.proofs.lemmas.Bool.{and_parts, eqb-true, leb-true, or_cases, lt-ltb, le-ltb}
 use Rattle.calendar.proofs.Moments.{in_calendar_lem, instant_of_pair}
 use Rattle.model.specs.Names.{name_of}
+use Rattle.records.specs.declared.field.Form.TheVariants as form
+use Rattle.records.specs.declared.field.Layout.TheVariants.{Plain}
 use Rattle.records.specs.declared.field.Field.{Field}
 use Rattle.records.specs.declared.field.Value.{Value}
 use Rattle.records.specs.declared.field.Value.TheVariants.{Number, Text}
@@ -12,12 +14,12 @@ use Rattle.records.specs.declared.record.Record.TheVariants as rec
 use Rattle.records.specs.Fields.{in_bounds}
 use Rattle.records.specs.Tables as table
 use Rattle.records.specs.Values.{number_in, name_in, value_at, number_at, name_at}
-use Rattle.reading.specs.Builds.{origin_of, satellite_of, accuracy_of, offset_of, flag_of, row_of, velocity_of}
-use Rattle.writing.specs.Values.{whole, origin_values, accuracy_values, offset_values, flag_number, position_values, velocity_values}
-use Rattle.writing.proofs.RecordLaws.{field_at}
+use Rattle.records.specs.Builds.{origin_of, satellite_of, accuracy_of, offset_of, velocity_of}
+use Rattle.model.specs.Flags.{flag_number, flag_of}
+use Rattle.reading.specs.Builds.{row_of}
+use Rattle.writing.specs.Values.{whole, origin_values, accuracy_values, offset_values, position_values, velocity_values}
 use Rattle.round_trip.specs.Goods.{cpf_word, GoodName, GoodNote, GoodNumber, GoodDay, GoodBy, GoodOn, GoodValues}
 use Rattle.round_trip.specs.Contents.{GoodSatellite, GoodAccuracy}
-use Rattle.round_trip.proofs.Basics.{never_true}
 
 -- n values from the place i on
 abbrev values_from : ℕ → ℕ → List Value → List Value
@@ -30,6 +32,10 @@ from_is i (suc n) vs e = ap (λ l. value_at vs i ∷ l) (from_is (i + 1) n vs (o
 
 all_values : (n : ℕ) (vs : List Value) → length vs ≡ n → values_from 0 n vs ≡ vs
 all_values n vs e = from_is 0 n vs (omega arith)
+
+-- the field at a place
+abbrev field_at : List Field → ℕ → Field
+field_at fs i = get_or fs i (record { form = form.Cpf; places = 0; least = pos 0; greatest = pos 0; layout = Plain })
 
 -- a value at its place
 good_from : (fs : List Field) (before vs : List Value) (i : ℕ) → GoodOn fs before vs → i < length vs → GoodBy (field_at fs i).form (field_at fs i) (before ++ take i vs) (value_at vs i)
@@ -58,7 +64,7 @@ number_inside f v g = ap (λ x. in_bounds f (number_in x)) g.is ∙ g.inside
 -- a number between natural bounds is one
 natural : (low high : ℕ) (z : ℤ) → (le_z (pos low) z && le_z z (pos high)) ≡ true → (pos (nat_abs z) ≡ z) × (low ≤ nat_abs z) × (nat_abs z ≤ high)
 natural low high (pos n) h = let p = and_parts (leb low n) (leb n high) h in (refl, leb-true low n p.0, leb-true n high p.1)
-natural low high (negsuc n) h = never_true h
+natural low high (negsuc n) h = (let z = h in cc)
 
 only : (k : ℕ) (f : Field) (v : Value) → f.least ≡ pos k → f.greatest ≡ pos k → GoodNumber f v → whole k ≡ v
 only k f v l h g =
@@ -68,8 +74,8 @@ only k f v l h g =
 
 -- as many values as fields, but for the notes
 count_is : (b : Bool) (n k : ℕ) → (eqb n k || (b && eqb (n + 1) k)) ≡ true → b ≡ false → n ≡ k
-count_is true n k h e = never_true (sym e)
-count_is false n k h e = ⊎_elim (λ x. eqb-true n k x) (λ x. never_true x) (or_cases (eqb n k) false h)
+count_is true n k h e = (let z = e in cc)
+count_is false n k h e = ⊎_elim (λ x. eqb-true n k x) (λ x. (let z = x in cc)) (or_cases (eqb n k) false h)
 
 module _ (vs : List Value) (g : GoodValues rec.H2 vs) where
   pub built_satellite : GoodSatellite (satellite_of vs)

@@ -21,7 +21,6 @@ use Rattle.records.specs.declared.field.Value.TheVariants.{Number}
 use Rattle.records.specs.Fields.{is_name_byte, all_name_bytes, in_bounds, number_if, day_if, last_day, value_by}
 use Rattle.writing.specs.Texts.{number_text, text_by}
 use Rattle.round_trip.specs.Goods.{cpf_word, GoodBy}
-use Rattle.round_trip.proofs.Basics.{never_true}
 use Rattle.round_trip.proofs.Rooms.{digits, sign_room, point_room, text_room, number_room, room_by, fine_number, fine_layout, not_two, fine_by, FineNumber, fine_number_lem}
 
 -- the text of a value: spaces, and a word that is read as the value
@@ -49,8 +48,8 @@ name_bounds f n fine h =
     by f.least f.greatest p.0 p.1 q.0 q.1
   where
     by : (a b : ℤ) → le_z (pos 1) a ≡ true → le_z b (pos 10) ≡ true → le_z a (pos n) ≡ true → le_z (pos n) b ≡ true → (1 ≤ n) × (n ≤ 10) × (n ≤ nat_abs b)
-    by (negsuc a) b x y s t = never_true x
-    by (pos a) (negsuc b) x y s t = never_true t
+    by (negsuc a) b x y s t = (let z = x in cc)
+    by (pos a) (negsuc b) x y s t = (let z = t in cc)
     by (pos a) (pos b) x y s t = let k = leb-true 1 a x in let l = leb-true a n s in let m = leb-true n b t in let o = leb-true b 10 y in (omega arith, omega arith, omega arith)
 
 -- letters and digits are printable
@@ -69,13 +68,13 @@ printable_letters (b ∷ w) h = let p = and_parts (is_name_byte b) (all_name_byt
 -- a number within bounds is not larger than they are
 abs_bounds : (a b z : ℤ) → le_z a z ≡ true → le_z z b ≡ true → nat_abs z ≤ max (nat_abs a) (nat_abs b)
 abs_bounds a (pos b) (pos n) l h = omega (arith, leb-true n b h)
-abs_bounds a (negsuc b) (pos n) l h = never_true h
-abs_bounds (pos a) b (negsuc n) l h = never_true l
+abs_bounds a (negsuc b) (pos n) l h = (let z = h in cc)
+abs_bounds (pos a) b (negsuc n) l h = (let z = l in cc)
 abs_bounds (negsuc a) b (negsuc n) l h = omega (arith, leb-true n a l)
 
 from_pos : (n : ℕ) (z : ℤ) → le_z (pos n) z ≡ true → pos 0 ≤ℤ z
 from_pos n (pos m) l = omega (arith, ints)
-from_pos n (negsuc m) l = never_true l
+from_pos n (negsuc m) l = (let z = l in cc)
 
 text_room_lem : (z : ℤ) (d k : ℕ) (low : ℤ) → 1 ≤ k → nat_abs z < 2 ^ 64 → nat_abs z < 10 ^ (k + d) → le_z low z ≡ true → length (text_of z d) ≤ sign_room low + (k + point_room d)
 text_room_lem z zero k (pos n) some bits small l = let e : k + 0 ≡ k = omega arith in omega (arith, whole_text_le_pos z k some bits (rw e at small) (from_pos n z l))
@@ -107,9 +106,9 @@ small f z fine h =
 
 two_bounds : (a b z : ℤ) → le_z (pos 0) a ≡ true → le_z b (pos 99) ≡ true → le_z a z ≡ true → le_z z b ≡ true → (pos 0 ≤ℤ z) × (z ≤ℤ pos 99)
 two_bounds (pos a) (pos b) (pos z) l h s t = let x = leb-true b 99 h in let y = leb-true z b t in (omega (arith, ints), omega (arith, ints))
-two_bounds (negsuc a) b z l h s t = never_true l
-two_bounds (pos a) b (negsuc z) l h s t = never_true s
-two_bounds (pos a) (negsuc b) (pos z) l h s t = never_true t
+two_bounds (negsuc a) b z l h s t = (let z = l in cc)
+two_bounds (pos a) b (negsuc z) l h s t = (let z = s in cc)
+two_bounds (pos a) (negsuc b) (pos z) l h s t = (let z = t in cc)
 
 number_written : (how : Layout) (f : Field) (z : ℤ) → FineNumber f → fine_layout how f ≡ true → in_bounds f z ≡ true → NumberWritten how f z
 number_written Plain f z fine lay h =
@@ -139,7 +138,7 @@ whole_word_lem how f z none fine h n =
     ⊎_elim (λ e. ap whole_of (e ∙ ap (text_of z) none) ∙ wholes_back z s) (λ e. e.1) n.reads
 
 not_two_lem : (how : Layout) → not_two how ≡ true → how ≡ TwoDigits → ⊥
-not_two_lem how h e = never_true (sym (ap not_two e) ∙ h)
+not_two_lem how h e = (let z = sym (ap not_two e) ∙ h in cc)
 
 decimal_word_lem : (how : Layout) (f : Field) (z : ℤ) → not_two how ≡ true → FineNumber f → in_bounds f z ≡ true → (n : NumberWritten how f z) → decimal_of n.word f.places ≡ Some z
 decimal_word_lem how f z places fine h n =

@@ -13,7 +13,8 @@ use Rattle.reading.specs.declared.scan.Scan.{Scan}
 use Rattle.reading.specs.declared.stage.Stage.{Stage}
 use Rattle.reading.specs.declared.stage.Stage.TheVariants as at
 use Rattle.reading.specs.declared.stage.Part.TheVariants as part
-use Rattle.reading.specs.Builds.{satellite_of, span_of}
+use Rattle.records.specs.Builds.{satellite_of}
+use Rattle.reading.specs.Builds.{span_of}
 use Rattle.reading.specs.Order.{after_h9}
 use Rattle.reading.specs.Scans.{started}
 use Rattle.writing.specs.Texts.{record_text}

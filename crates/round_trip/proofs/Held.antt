@@ -23,7 +23,6 @@ use Rattle.reading.specs.Stores.{with_velocity, completed}
 use Rattle.writing.specs.Values.{origin_values, offset_values, position_values, velocity_values}
 use Rattle.round_trip.specs.Goods.{GoodValues}
 use Rattle.round_trip.specs.Contents.{GoodSatellite, GoodAccuracy, GoodAccuracyIf, GoodOffsetIf, GoodHeader, GoodVelocityIf, GoodRow, is_some, has_velocity, Follows, InOrder, GoodRows}
-use Rattle.round_trip.proofs.Basics.{never, never_true}
 use Rattle.round_trip.proofs.RowPasses.{completed_push}
 
 -- good rows, with velocities or without; the summary tells the instant and the flag of the last one
@@ -117,7 +116,7 @@ whole_push b rows sum m x w k later flags v at flag =
 
 none_velocity : (v : Option Vector) → v ≡ None → GoodVelocityIf v × (is_some v ≡ false)
 none_velocity None e = (tt, refl)
-none_velocity (Some v) e = never (cc)
+none_velocity (Some v) e = cc
 
 bare_row : (x : Row) → GoodValues rec.Position (position_values x) → x.velocity ≡ None → GoodRow x
 bare_row x g e = record { position = g; velocity = (none_velocity x.velocity e).0 }
@@ -307,20 +306,20 @@ after_comment_lem p at.End h rows m i = tt
 
 -- where the rows are whole
 at_done : (p : Part) (st : Stage) (h : Header) (rows : List Row) (m : Option Summary) → rows_done st ≡ true → Held p st h rows m → GoodHeaderOf p h × GoodRows rows
-at_done p at.Start h rows m e i = never_true e
-at_done p at.H1 h rows m e i = never_true e
-at_done p at.H2 h rows m e i = never_true e
-at_done p at.H3 h rows m e i = never_true e
-at_done p at.H5 h rows m e i = never_true e
-at_done p at.H9 h rows m e i = never_true e
+at_done p at.Start h rows m e i = (let z = e in cc)
+at_done p at.H1 h rows m e i = (let z = e in cc)
+at_done p at.H2 h rows m e i = (let z = e in cc)
+at_done p at.H3 h rows m e i = (let z = e in cc)
+at_done p at.H5 h rows m e i = (let z = e in cc)
+at_done p at.H9 h rows m e i = (let z = e in cc)
 at_done p at.FirstPosition h rows None e i = absurd i.1
 at_done p at.FirstPosition h rows (Some m) e i = (i.0, (first_whole rows m i.1).good)
 at_done p at.Position h rows None e i = absurd i.1
 at_done p at.Position h rows (Some m) e i = (i.0, i.1.good)
-at_done p at.AwaitsVelocity h rows m e i = never_true e
+at_done p at.AwaitsVelocity h rows m e i = (let z = e in cc)
 at_done p at.Velocity h rows None e i = absurd i.1
 at_done p at.Velocity h rows (Some m) e i = (i.0, i.1.good)
-at_done p at.End h rows m e i = never_true e
+at_done p at.End h rows m e i = (let z = e in cc)
 
 pub after_trailer_lem : (p : Part) (st : Stage) (h : Header) (rows : List Row) (m : Option Summary) → Held p st h rows m → HeldIf p (after_trailer p st) h rows m
 after_trailer_lem part.File st h rows m i = by (rows_done st) refl
@@ -336,16 +335,16 @@ ends_at part.File st = is_end st
 ends_at part.Block st = rows_done st
 
 file_end : (st : Stage) (h : Header) (rows : List Row) (m : Option Summary) → is_end st ≡ true → Held part.File st h rows m → GoodHeader h × GoodRows rows
-file_end at.Start h rows m e i = never_true e
-file_end at.H1 h rows m e i = never_true e
-file_end at.H2 h rows m e i = never_true e
-file_end at.H3 h rows m e i = never_true e
-file_end at.H5 h rows m e i = never_true e
-file_end at.H9 h rows m e i = never_true e
-file_end at.FirstPosition h rows m e i = never_true e
-file_end at.Position h rows m e i = never_true e
-file_end at.AwaitsVelocity h rows m e i = never_true e
-file_end at.Velocity h rows m e i = never_true e
+file_end at.Start h rows m e i = (let z = e in cc)
+file_end at.H1 h rows m e i = (let z = e in cc)
+file_end at.H2 h rows m e i = (let z = e in cc)
+file_end at.H3 h rows m e i = (let z = e in cc)
+file_end at.H5 h rows m e i = (let z = e in cc)
+file_end at.H9 h rows m e i = (let z = e in cc)
+file_end at.FirstPosition h rows m e i = (let z = e in cc)
+file_end at.Position h rows m e i = (let z = e in cc)
+file_end at.AwaitsVelocity h rows m e i = (let z = e in cc)
+file_end at.Velocity h rows m e i = (let z = e in cc)
 file_end at.End h rows m e i = i
 
 pub at_end : (p : Part) (st : Stage) (h : Header) (rows : List Row) (m : Option Summary) → ends_at p st ≡ true → Held p st h rows m → GoodHeaderOf p h × GoodRows rows

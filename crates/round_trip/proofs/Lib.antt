@@ -1,4 +1,3 @@
-pub mod Basics
 pub mod LineLaws
 pub mod Rooms
 pub mod FieldLaws

@@ -9,7 +9,6 @@ use Rattle.reading.proofs.TrackLaws.{tracks_text}
 use Rattle.writing.specs.Files.{canonical}
 use Rattle.sheet.specs.Openings.{Contents, contents_by, opened_from}
 use Rattle.round_trip.specs.Openings.{GoodContents, OpeningsAreGood, RewrittenFilesOpen, RewritingSettles}
-use Rattle.round_trip.proofs.Basics.{never}
 use Rattle.round_trip.proofs.HeldLines.{scan_good}
 use Rattle.round_trip.proofs.FileLaws.{files_read_back}
 
@@ -19,7 +18,7 @@ record Fits (memory : ℕ) (c : Contents) : Type 0 where
   fits : length c.rows ≤ min memory 8192
 
 opened_fits : (memory : ℕ) (file : List ℕ) (c : Contents) (r : Result Scan Refusal) → r ≡ scan_of part.File (Some (min memory 8192)) file → contents_by r (rows_in file) ≡ Ok c → Fits memory c
-opened_fits memory file c (Err e) q p = never (cc)
+opened_fits memory file c (Err e) q p = cc
 opened_fits memory file c (Ok u) q p =
     let e : record { header = u.header; rows = rows_in file } ≡ c = cc in
     let g = scan_good (min memory 8192) file u (sym q) in

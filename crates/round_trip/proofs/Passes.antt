@@ -1,5 +1,5 @@
 -- How a reader passes the text of records.
-use Rattle.std.proofs.Common.{◌≡◌, ℕ, ◌+◌, ◌≤◌, true, false, cond, List, [], ◌∷◌, ◌++◌, length, drop, Some, Ok, sym, refl, ap, ◌∙◌, append_assoc, append-nil, add-zero, arith}
+use Rattle.std.proofs.Common.{◌≡◌, ℕ, ◌+◌, ◌≤◌, true, false, cond, List, [], ◌∷◌, ◌++◌, length, drop, Some, Ok, sym, refl, ap, ◌∙◌, append_assoc, append-nil, add-zero, arith, None, Option}
 use Rattle.std.specs.List.{AllByRecursion}
 use Rattle.std.proofs.ByRecursion.{All-append}
 use Rattle.std.proofs.lemmas.List.{length-append}
@@ -17,7 +17,8 @@ use Rattle.reading.specs.declared.stage.Stage.{Stage}
 use Rattle.reading.specs.declared.part.RowPart.{RowPart}
 use Rattle.reading.specs.declared.part.RowPart.TheVariants as parts
 use Rattle.reading.specs.Order.{next_stage}
-use Rattle.reading.specs.Builds.{row_of, velocity_of}
+use Rattle.records.specs.Builds.{velocity_of}
+use Rattle.reading.specs.Builds.{row_of}
 use Rattle.reading.specs.Scans.{taken, taken_if, at_stage, with_stage, by_stage, by_record, line_step}
 use Rattle.reading.specs.Texts.{on_scan, scan_lines}
 use Rattle.reading.specs.Stores.{with_part, position_part, velocity_part, part_by_record, part_by_type, rows_with, rows_on}
@@ -82,16 +83,16 @@ module _ (a b : List ℕ) (i j : ℕ) (s : Scan) (rows : List Row) (t : Scan) (m
       }
 
 -- what a record says of the rows
-abbrev pub part_in : Record → List Value → RowPart
-part_in rec.H1 vs = parts.Nothing
-part_in rec.H2 vs = parts.Nothing
-part_in rec.H3 vs = parts.Nothing
-part_in rec.H5 vs = parts.Nothing
-part_in rec.H9 vs = parts.Nothing
-part_in rec.Position vs = parts.Position (row_of vs)
-part_in rec.Velocity vs = parts.Velocity (velocity_of vs)
-part_in rec.Comment vs = parts.Nothing
-part_in rec.Trailer vs = parts.Nothing
+abbrev pub part_in : Record → List Value → Option RowPart
+part_in rec.H1 vs = None
+part_in rec.H2 vs = None
+part_in rec.H3 vs = None
+part_in rec.H5 vs = None
+part_in rec.H9 vs = None
+part_in rec.Position vs = Some (parts.Position (row_of vs))
+part_in rec.Velocity vs = Some (parts.Velocity (velocity_of vs))
+part_in rec.Comment vs = None
+part_in rec.Trailer vs = None
 
 pub part_is : (n : ℕ) (rest : List ℕ) (t : Record) (vs : List Value) → read_record n t rest ≡ Ok vs → part_by_record n rest t ≡ part_in t vs
 part_is n rest rec.H1 vs e = refl

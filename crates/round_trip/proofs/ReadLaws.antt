@@ -23,7 +23,6 @@ use Rattle.records.specs.Reads.{onward, read_on, is_h1, count_fits, read_record}
 use Rattle.records.specs.Tables.{fields_of}
 use Rattle.round_trip.specs.Lines.{LineByte, IsLine}
 use Rattle.round_trip.specs.Goods.{cpf_word, GoodNumber, GoodDay, GoodBy, GoodOn, GoodValues}
-use Rattle.round_trip.proofs.Basics.{never}
 
 -- the lines of a text are lines
 lines_on : (line bs : List ℕ) → AllByRecursion LineByte line → AllByRecursion IsLine (text_on line bs).lines
@@ -60,12 +59,12 @@ words_printable (b ∷ bs) a =
 -- what a test lets through
 chosen : {X E : Type 0} (b : Bool) (x v : X) (e : E) → ◌≡◌ {A = Result X E} (cond b (Ok x) (Err e)) (Ok v) → (b ≡ true) × (x ≡ v)
 chosen true x v e p = (refl, cc)
-chosen false x v e p = never (cc)
+chosen false x v e p = cc
 
 cpf_is : (w : List ℕ) → is_cpf w ≡ true → w ≡ cpf_word
-cpf_is [] h = never (cc)
-cpf_is (a ∷ []) h = never (cc)
-cpf_is (a ∷ (b ∷ [])) h = never (cc)
+cpf_is [] h = cc
+cpf_is (a ∷ []) h = cc
+cpf_is (a ∷ (b ∷ [])) h = cc
 cpf_is (a ∷ (b ∷ (c ∷ []))) h =
     let p = and_parts (eqb a 67) _ h in
     let q = and_parts (eqb b 80) (eqb c 70) p.1 in
@@ -73,14 +72,14 @@ cpf_is (a ∷ (b ∷ (c ∷ []))) h =
     let y = eqb-true b 80 q.0 in
     let z = eqb-true c 70 q.1 in
     λ i. x i ∷ (y i ∷ (z i ∷ []))
-cpf_is (a ∷ (b ∷ (c ∷ (d ∷ w)))) h = never (cc)
+cpf_is (a ∷ (b ∷ (c ∷ (d ∷ w)))) h = cc
 
 number_good : (f : Field) (o : Option ℤ) (v : Value) → number_if f o ≡ Ok v → GoodNumber f v
-number_good f None v p = never (cc)
+number_good f None v p = cc
 number_good f (Some z) v p = let q = chosen (in_bounds f z) (Number z) v _ p in record { number = z; is = sym q.1; inside = q.0 }
 
 day_good : (f : Field) (before : List Value) (o : Option ℤ) (v : Value) → day_if f (last_day before) o ≡ Ok v → GoodDay f before v
-day_good f before None v p = never (cc)
+day_good f before None v p = cc
 day_good f before (Some z) v p =
     let q = chosen (in_bounds f z && le_z z (pos (last_day before))) (Number z) v _ p in
     let r = and_parts (in_bounds f z) (le_z z (pos (last_day before))) q.0 in
@@ -113,7 +112,7 @@ none_more (f ∷ fs) ws before vs n p = let e : vs ≡ before = cc in record { m
 by_value : (line : ℕ) (f : Field) (fs : List Field) (w : List ℕ) (ws : List (List ℕ)) (before vs : List Value) (r : Result Value Fault) → r ≡ field_value f w before → AllByRecursion Printable w
     → ((v : Value) → read_on line fs ws (before ++ (v ∷ [])) ≡ Ok vs → GoodMore fs ws (before ++ (v ∷ [])) vs)
     → onward r line (length before + 2) (λ v. read_on line fs ws (before ++ (v ∷ []))) ≡ Ok vs → GoodMore (f ∷ fs) (w ∷ ws) before vs
-by_value line f fs w ws before vs (Err e) q a next p = never (cc)
+by_value line f fs w ws before vs (Err e) q a next p = cc
 by_value line f fs w ws before vs (Ok v) q a next p =
     let m = next v p in
     let n = m.count in
@@ -136,7 +135,7 @@ read_good line t l vs g p =
     by (count_fits t (length (words (drop 2 l)))) refl p
   where
     by : (b : Bool) → b ≡ count_fits t (length (words (drop 2 l))) → cond b (read_on line (fields_of t) (words (drop 2 l)) []) (Err (WordCount line)) ≡ Ok vs → GoodValues t vs
-    by false e h = never (cc)
+    by false e h = cc
     by true e h =
         let m = read_more line (fields_of t) (words (drop 2 l)) [] vs (words_printable (drop 2 l) (All-drop LineByte 2 l g.bytes)) h in
         let k = count_le t (length (words (drop 2 l))) (sym e) in

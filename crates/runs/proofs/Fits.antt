@@ -15,7 +15,6 @@ use Rattle.edits.proofs.Parts.{ordered_block, some_between, cut_shorter}
 use Rattle.journal.specs.declared.journal.Edit.TheVariants.{Cut}
 use Rattle.sheet.specs.Openings.{Contents, contents_by, opened_from}
 use Rattle.round_trip.specs.Contents.{GoodHeader, GoodRows}
-use Rattle.round_trip.proofs.Basics.{never}
 use Rattle.round_trip.proofs.OpeningLaws.{openings_are_good}
 use Rattle.round_trip.proofs.HeldLines.{blocks_are_good}
 use Rattle.runs.proofs.GoodEdits.{good_some, good_parts, paste_good, cut_good}
@@ -37,7 +36,7 @@ AllFalse [] = Unit {0}
 AllFalse (r ∷ rs) = (r.0 ≡ false) × AllFalse rs
 
 passed_one : (b : Bool) (e : Refusal) (a : Answer) → cond b (Err e) a ≡ Ok tt → (b ≡ false) × (a ≡ Ok tt)
-passed_one true e a h = never (cc)
+passed_one true e a h = absurd (cc)
 passed_one false e a h = (refl, h)
 
 pub passed : (rs : List (Bool × Refusal)) → rules rs ≡ Ok tt → AllFalse rs
@@ -47,12 +46,12 @@ passed (r ∷ rs) h = let p = passed_one r.0 r.1 (rules rs) h in (p.0, passed rs
 -- a call that no sheet without a file accepts
 pub with_file_lem : (b : Bool) (e : Refusal) (a : Answer) → cond b a (Err e) ≡ Ok tt → (b ≡ true) × (a ≡ Ok tt)
 with_file_lem true e a h = (refl, h)
-with_file_lem false e a h = never (cc)
+with_file_lem false e a h = absurd (cc)
 
 -- OPENINGS
 
 opened_size : (memory : ℕ) (file : List ℕ) (c : Contents) (r : Result Scan Refusal) → r ≡ scan_of File (Some (min memory 8192)) file → contents_by r (rows_in file) ≡ Ok c → length c.rows ≤ min memory 8192
-opened_size memory file c (Err e) q p = never (cc)
+opened_size memory file c (Err e) q p = absurd (cc)
 opened_size memory file c (Ok u) q p =
     let e : record { header = u.header; rows = rows_in file } ≡ c = cc in
     let t = tracks_text File (Some (min memory 8192)) file u (sym q) in
@@ -73,7 +72,7 @@ pub record Fitting (room : ℕ) (h : Option Header) (x y : ℕ) (rows : List Row
 module _ (room hold : ℕ) (h : Option Header) (rows : List Row) (f : Fit room h rows) where
   paste_by_lem : (block : List ℕ) (r : Result Scan Refusal) → r ≡ scan_of Block None block → paste_by room hold rows (rows_in block) r ≡ Ok tt
       → Fitting room h (first_moment (rows_in block)) (last_moment (rows_in block)) (paste_of (rows_in block) rows).rows
-  paste_by_lem block (Err e) q p = never (cc)
+  paste_by_lem block (Err e) q p = absurd (cc)
   paste_by_lem block (Ok u) q p =
       let B = rows_in block in
       let c = paste_of B rows in

@@ -13,7 +13,6 @@ use Rattle.edits.specs.Checks.{Answer, rules, none, joined, paste_of, paste_rule
 use Rattle.sheet.specs.Openings.{opened_from}
 use Rattle.sheet.specs.States.{Past, View, entry_of, entries_in, changed, is_open, open_answer, paste_answer, cut_answer, undo_answer}
 use Rattle.sheet.specs.Calls.{after_opening, Edited, Restored}
-use Rattle.round_trip.proofs.Basics.{never}
 use Rattle.runs.specs.Plain.{Call, opens, pastes, cuts, undoes, staying}
 use Rattle.runs.specs.Runs.{Step, Run, done, call}
 use Rattle.runs.specs.Outcomes.{RunsExist, RunsAreDetermined}
@@ -29,7 +28,7 @@ record OutcomeOf (v : View) (c : Call) : Type 0 where
 
 -- what a paste and a cut take out fits the memory for it
 paste_hold : (room hold : ℕ) (rows block : List Row) (r : Result Scan Refusal) → paste_by room hold rows block r ≡ Ok tt → length (paste_of block rows).out ≤ hold
-paste_hold room hold rows block (Err e) p = never (cc)
+paste_hold room hold rows block (Err e) p = absurd (cc)
 paste_hold room hold rows block (Ok u) p = ltb-false hold (length (paste_of block rows).out) (passed (paste_rules room hold rows block (paste_of block rows)) p).1.1.1.0
 
 cut_hold : (hold : ℕ) (inside : Bool) (c : Change) → rules (cut_rules hold inside c) ≡ Ok tt → length c.out ≤ hold
@@ -111,8 +110,8 @@ undo_one v w x e f =
 
 by_answer : {P P' : Type 0} (v w x : View) (a b : Answer) → a ≡ b → MatchResult a (λ _. P) (λ _. w ≡ v) → MatchResult b (λ _. P') (λ _. x ≡ v) → (P → P' → w ≡ x) → w ≡ x
 by_answer v w x (Ok t) (Ok u) e p q f = f p q
-by_answer v w x (Ok t) (Err u) e p q f = never (cc)
-by_answer v w x (Err t) (Ok u) e p q f = never (cc)
+by_answer v w x (Ok t) (Err u) e p q f = absurd (cc)
+by_answer v w x (Err t) (Ok u) e p q f = absurd (cc)
 by_answer v w x (Err t) (Err u) e p q f = p ∙ sym q
 
 one : (v : View) (c : Call) (a b : Answer) (w x : View) → Step v c a w → Step v c b x → (a ≡ b) × (w ≡ x)

@@ -7,7 +7,6 @@ use Rattle.edits.specs.Checks.{Answer, joined, paste_of, cut_of}
 use Rattle.sheet.specs.Openings.{Contents, opened_from}
 use Rattle.sheet.specs.States.{State, View, empty_state, empty_view, with_file, changed, accepted, is_open, open_answer, paste_answer, cut_answer}
 use Rattle.sheet.specs.Calls.{after_opening}
-use Rattle.round_trip.proofs.Basics.{never}
 use Rattle.round_trip.proofs.FileLaws.{files_read_back}
 use Rattle.runs.specs.Plain.{Call, opens, pastes, cuts, undoes}
 use Rattle.runs.specs.Runs.{Step, Run, done, call}
@@ -30,8 +29,8 @@ opened_still v (Err e) = refl
 
 on_both : {P Q P' Q' : Type 0} (R : Type 0) (a b : Answer) → a ≡ b → MatchResult a (λ _. P) (λ _. Q) → MatchResult b (λ _. P') (λ _. Q') → (P → P' → R) → (Q → Q' → R) → R
 on_both R (Ok x) (Ok y) e c d f g = f c d
-on_both R (Ok x) (Err y) e c d f g = never (cc)
-on_both R (Err x) (Ok y) e c d f g = never (cc)
+on_both R (Ok x) (Err y) e c d f g = absurd (cc)
+on_both R (Err x) (Ok y) e c d f g = absurd (cc)
 on_both R (Err x) (Err y) e c d f g = g c d
 
 record Twins (v w : View) (a b : Answer) : Type 0 where

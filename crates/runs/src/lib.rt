@@ -18,19 +18,15 @@ ghost use Rattle.shifts.specs.Stacks.{StackedShifts};
 ///
 /// `shifts`: a stack of shifts of any height over any rows, hence over those of any such sheet, answers at an instant
 /// as the rows themselves do at the instant less the sum of the shifts.
-pub fn sheets_agree() -> u8
+pub fn sheets_agree()
     ensures reopening { ReopeningAgrees }
     ensures plain { PlainSheetAgrees }
     ensures shifts { StackedShifts }
-{
-    0
-}
+{}
 
 /// Whatever a sheet has and whatever calls it is given, what the contracts of the calls state leaves them exactly one
 /// outcome: there are answers and a sheet after them, and no others. So `sheets_agree` speaks of every list of calls.
-pub fn calls_have_one_outcome() -> u8
+pub fn calls_have_one_outcome()
     ensures some { RunsExist }
     ensures only { RunsAreDetermined }
-{
-    0
-}
+{}
