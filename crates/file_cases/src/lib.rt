@@ -4,33 +4,29 @@
 use model::Row;
 use reading::stage::Part;
 use reading::text::scan_text;
+use refusal::Refusal;
 use sheet::sheet::Sheet;
 
-/// Number, line and word of the refusal of a file by a sheet with memory for four rows; zeros where it is accepted.
-pub fn outcome(file: &[u8]) -> (u8, usize, usize) {
-    let mut rows = [Row::blank(); 4];
-    let mut sheet = Sheet::new(&mut rows, &mut []);
-    match sheet.open(file) {
-        Ok(()) => (0, 0, 0),
-        Err(refusal) => (refusal.number(), refusal.line(), refusal.word()),
+/// How a text is refused: the number, and the line and the word, or 0 where none applies.
+#[derive(Clone, Copy, PartialEq, Debug)]
+pub struct Told(pub u8, pub usize, pub usize);
+
+impl From<Refusal> for Told {
+    fn from(refusal: Refusal) -> Told {
+        Told(refusal.number(), refusal.line(), refusal.word())
     }
 }
 
-/// The same without memory for rows.
-pub fn outcome_without_memory(file: &[u8]) -> (u8, usize, usize) {
-    let mut sheet = Sheet::new(&mut [], &mut []);
-    match sheet.open(file) {
-        Ok(()) => (0, 0, 0),
-        Err(refusal) => (refusal.number(), refusal.line(), refusal.word()),
-    }
+/// What a sheet over this memory for rows says of a file.
+pub fn outcome(file: &[u8], rows: &mut [Row]) -> Result<(), Told> {
+    let mut sheet = Sheet::new(rows, &mut []);
+    Ok(sheet.open(file)?)
 }
 
-/// Number, line and word of the refusal of a block of rows; zeros where it is a block.
-pub fn block_outcome(block: &[u8]) -> (u8, usize, usize) {
-    match scan_text(block, Part::Block, None) {
-        Ok(_) => (0, 0, 0),
-        Err(refusal) => (refusal.number(), refusal.line(), refusal.word()),
-    }
+/// What is said of a block of rows.
+pub fn block_outcome(block: &[u8]) -> Result<(), Told> {
+    scan_text(block, Part::Block, None)?;
+    Ok(())
 }
 
 #[cfg(test)]
@@ -46,7 +42,7 @@ mod tests {
         h1: &'static str,
         h2: &'static str,
         rest: &'static str,
-        refusal: (u8, usize, usize),
+        outcome: Result<(), Told>,
     }
 
     const H1: &str = "H1 CPF 2 XYZ 2021 06 01 0 152 1 demo1\n";
@@ -60,61 +56,61 @@ mod tests {
             h1: H1,
             h2: H2,
             rest: ROW,
-            refusal: (0, 0, 0),
+            outcome: Ok(()),
         },
         Case {
             h1: "H1 CPF +2 abc 2000 02 29 007 -00 99 x #1,'~\n",
             h2: H2,
             rest: ROW,
-            refusal: (0, 0, 0),
+            outcome: Ok(()),
         },
         Case {
             h1: H1,
             h2: "00anything\nH2 2100101 1234 40001 2021 6 1 0 1 0 2021 6 1 0 1 0 0 1 1 0 0 0 1   \n",
             rest: ROW,
-            refusal: (0, 0, 0),
+            outcome: Ok(()),
         },
         Case {
             h1: H1,
             h2: H2,
             rest: "H3 -9999 99999 0 0 0 0 0 0 0\nH5 99.9999\nH9\n10 0 59366 60 0 1 2 3\n99\n",
-            refusal: (0, 0, 0),
+            outcome: Ok(()),
         },
         Case {
             h1: H1,
             h2: H2,
             rest: "H5 0\nH9\n10 0 59366 60.999999 -1 1 2 3\n99\n",
-            refusal: (0, 0, 0),
+            outcome: Ok(()),
         },
         Case {
             h1: H1,
             h2: H2,
             rest: "H9\n10 0 59366 60 0 1 2 3\n00 between\n20 0 1 -2 3.000001\n99\n",
-            refusal: (0, 0, 0),
+            outcome: Ok(()),
         },
         Case {
             h1: H1,
             h2: "H2 1 1 1 2021 6 1 0 1 0 2021 6 1 0 3 0 60 1 1 0 0 0 1\n",
             rest: "H9\n10 0 59366 60 0 1 2 3\n10 0 59366 120 1 1 2 3\n10 0 59366 180 1 1 2 3\n99\n",
-            refusal: (0, 0, 0),
+            outcome: Ok(()),
         },
         Case {
             h1: H1,
             h2: "H2 1 1 1 2021 6 1 0 1 0 2021 6 1 0 2 0 0 1 1 0 0 0 1\n",
             rest: "H9\n10 0 59366 60 0 1 2 3\n10 0 59366 120.5 0 1 2 3\n99\n",
-            refusal: (0, 0, 0),
+            outcome: Ok(()),
         },
         Case {
             h1: H1,
             h2: "H2 1 1 1 2099 12 31 23 59 58 2099 12 31 23 59 59 1 1 1 0 0 0 1\n",
             rest: "H9\n10 0 88068 86398 0 1 2 3\n20 0 0 0 0\n10 0 88068 86399 0 1 2 3\n20 0 0 0 0\n99\n",
-            refusal: (0, 0, 0),
+            outcome: Ok(()),
         },
         Case {
             h1: H1,
             h2: H2,
             rest: "H9\n10 0 59366 60 0 -999999999999.999 999999999999.999 -0\n99\n",
-            refusal: (0, 0, 0),
+            outcome: Ok(()),
         },
     ];
 
@@ -123,145 +119,145 @@ mod tests {
             h1: "",
             h2: "",
             rest: "",
-            refusal: (14, 1, 0),
+            outcome: Err(Told(14, 1, 0)),
         },
         Case {
             h1: "H1 CPF 2 XYZ 2021 06 01 0 152 1\tdemo1\n",
             h2: H2,
             rest: ROW,
-            refusal: (11, 1, 0),
+            outcome: Err(Told(11, 1, 0)),
         },
         Case {
             h1: H1,
             h2: H2,
             rest: "H9\n10 0 59366 60. 0 7000000 +0 -0.5\n99",
-            refusal: (11, 5, 0),
+            outcome: Err(Told(11, 5, 0)),
         },
         Case {
             h1: H1,
             h2: H2,
             rest: "H9                                                                                                                               \n",
-            refusal: (12, 3, 0),
+            outcome: Err(Told(12, 3, 0)),
         },
         Case {
             h1: H1,
             h2: H2,
             rest: "H9                                                                                                                               \x07\n",
-            refusal: (11, 3, 0),
+            outcome: Err(Told(11, 3, 0)),
         },
         Case {
             h1: H1,
             h2: "H4 1\n",
             rest: ROW,
-            refusal: (13, 2, 0),
+            outcome: Err(Told(13, 2, 0)),
         },
         Case {
             h1: "H1CPF 2\n",
             h2: H2,
             rest: ROW,
-            refusal: (13, 1, 0),
+            outcome: Err(Told(13, 1, 0)),
         },
         Case {
             h1: H1,
             h2: H2,
             rest: "H9\n\n",
-            refusal: (13, 4, 0),
+            outcome: Err(Told(13, 4, 0)),
         },
         Case {
             h1: H1,
             h2: H2,
             rest: "H9\n1\n",
-            refusal: (13, 4, 0),
+            outcome: Err(Told(13, 4, 0)),
         },
         Case {
             h1: "00 first\n",
             h2: H1,
             rest: H2,
-            refusal: (14, 1, 0),
+            outcome: Err(Told(14, 1, 0)),
         },
         Case {
             h1: H1,
             h2: H2,
             rest: "H9\n10 0 59366 60 0 1 2 3\n99\n00 after\n",
-            refusal: (14, 6, 0),
+            outcome: Err(Told(14, 6, 0)),
         },
         Case {
             h1: H1,
             h2: H2,
             rest: "H5 1\nH3 1 2 3 4 5 6 7 8 9\n",
-            refusal: (14, 4, 0),
+            outcome: Err(Told(14, 4, 0)),
         },
         Case {
             h1: H1,
             h2: H2,
             rest: "H9\n99\n",
-            refusal: (14, 4, 0),
+            outcome: Err(Told(14, 4, 0)),
         },
         Case {
             h1: H1,
             h2: H2,
             rest: "H9\n10 0 59366 60 0 1 2 3\n",
-            refusal: (14, 5, 0),
+            outcome: Err(Told(14, 5, 0)),
         },
         Case {
             h1: H1,
             h2: H2,
             rest: "10 0 59366 60 0 1 2 3\n",
-            refusal: (14, 3, 0),
+            outcome: Err(Told(14, 3, 0)),
         },
         Case {
             h1: H1,
             h2: H2,
             rest: "H9\n20 0 1 2 3\n",
-            refusal: (14, 4, 0),
+            outcome: Err(Told(14, 4, 0)),
         },
         Case {
             h1: H1,
             h2: H2,
             rest: "H9\n10 0 59366 60 0 1 2 3\n20 0 1 2 3\n10 0 59366 61 0 1 2 3\n99\n",
-            refusal: (14, 7, 0),
+            outcome: Err(Told(14, 7, 0)),
         },
         Case {
             h1: H1,
             h2: H2,
             rest: "H9\n10 0 59366 60 0 1 2 3\n10 0 59366 61 0 1 2 3\n20 0 1 2 3\n",
-            refusal: (14, 6, 0),
+            outcome: Err(Told(14, 6, 0)),
         },
         Case {
             h1: H1,
             h2: H2,
             rest: "H9\n10 0 59366 60 0 1 2 3\n20 0 1 2 3\n20 0 1 2 3\n",
-            refusal: (14, 6, 0),
+            outcome: Err(Told(14, 6, 0)),
         },
         Case {
             h1: H1,
             h2: H2,
             rest: "H9 x\n",
-            refusal: (15, 3, 0),
+            outcome: Err(Told(15, 3, 0)),
         },
         Case {
             h1: H1,
             h2: H2,
             rest: "H9\n10 0 59366 60 0 1 2 3\n99 1\n",
-            refusal: (15, 5, 0),
+            outcome: Err(Told(15, 5, 0)),
         },
         Case {
             h1: "H1 CPF 2 XYZ 2021 06 01 0 152 1\n",
             h2: H2,
             rest: ROW,
-            refusal: (15, 1, 0),
+            outcome: Err(Told(15, 1, 0)),
         },
         Case {
             h1: "H1 CPF 2 XYZ 2021 06 01 0 152 1 demo1 a b\n",
             h2: H2,
             rest: ROW,
-            refusal: (15, 1, 0),
+            outcome: Err(Told(15, 1, 0)),
         },
         Case {
             h1: H1,
             h2: H2,
             rest: "H9\n10 0 59366 60 0 1 2\n",
-            refusal: (15, 4, 0),
+            outcome: Err(Told(15, 4, 0)),
         },
     ];
 
@@ -270,163 +266,163 @@ mod tests {
             h1: "H1 CPX 2 XYZ 2021 06 01 0 152 1 demo1\n",
             h2: H2,
             rest: ROW,
-            refusal: (16, 1, 2),
+            outcome: Err(Told(16, 1, 2)),
         },
         Case {
             h1: "H1 CPF 1 XYZ 2021 06 01 0 152 1 demo1\n",
             h2: H2,
             rest: ROW,
-            refusal: (17, 1, 3),
+            outcome: Err(Told(17, 1, 3)),
         },
         Case {
             h1: "H1 CPF 2 WXYZ 2021 06 01 0 152 1 demo1\n",
             h2: H2,
             rest: ROW,
-            refusal: (16, 1, 4),
+            outcome: Err(Told(16, 1, 4)),
         },
         Case {
             h1: "H1 CPF 2 X-Z 2021 06 01 0 152 1 demo1\n",
             h2: H2,
             rest: ROW,
-            refusal: (16, 1, 4),
+            outcome: Err(Told(16, 1, 4)),
         },
         Case {
             h1: "H1 CPF 2 XYZ 1969 06 01 0 152 1 demo1\n",
             h2: H2,
             rest: ROW,
-            refusal: (17, 1, 5),
+            outcome: Err(Told(17, 1, 5)),
         },
         Case {
             h1: "H1 CPF 2 XYZ 2021 13 x 0 152 1 demo1\n",
             h2: H2,
             rest: ROW,
-            refusal: (17, 1, 6),
+            outcome: Err(Told(17, 1, 6)),
         },
         Case {
             h1: "H1 CPF 2 XYZ 1999 02 29 0 152 1 demo1\n",
             h2: H2,
             rest: ROW,
-            refusal: (17, 1, 7),
+            outcome: Err(Told(17, 1, 7)),
         },
         Case {
             h1: "H1 CPF 2 XYZ 2021 06 31 0 152 1 demo1\n",
             h2: H2,
             rest: ROW,
-            refusal: (17, 1, 7),
+            outcome: Err(Told(17, 1, 7)),
         },
         Case {
             h1: "H1 CPF 2 XYZ 2021 06 01 24 152 1 demo1\n",
             h2: H2,
             rest: ROW,
-            refusal: (17, 1, 8),
+            outcome: Err(Told(17, 1, 8)),
         },
         Case {
             h1: "H1 CPF 2 XYZ 2021 06 01 0 1000 1 demo1\n",
             h2: H2,
             rest: ROW,
-            refusal: (17, 1, 9),
+            outcome: Err(Told(17, 1, 9)),
         },
         Case {
             h1: "H1 CPF 2 XYZ 2021 06 01 0 152 0 demo1\n",
             h2: H2,
             rest: ROW,
-            refusal: (17, 1, 10),
+            outcome: Err(Told(17, 1, 10)),
         },
         Case {
             h1: "H1 CPF 2 XYZ 2021 06 01 0 152 1 demo_1\n",
             h2: H2,
             rest: ROW,
-            refusal: (16, 1, 11),
+            outcome: Err(Told(16, 1, 11)),
         },
         Case {
             h1: "H1 CPF 2 XYZ 2021 06 01 0 152 1 demo1 elevenbytes\n",
             h2: H2,
             rest: ROW,
-            refusal: (16, 1, 12),
+            outcome: Err(Told(16, 1, 12)),
         },
         Case {
             h1: H1,
             h2: "H2 1 1 1 2021 6 31 0 1 0 2021 6 1 0 1 0 0 1 1 0 0 0 100\n",
             rest: ROW,
-            refusal: (17, 2, 7),
+            outcome: Err(Told(17, 2, 7)),
         },
         Case {
             h1: H1,
             h2: "H2 1 1 1 2021 6 1 0 1 0 2021 6 1 0 1 0 0 1 1 0 0 0 100\n",
             rest: ROW,
-            refusal: (17, 2, 23),
+            outcome: Err(Told(17, 2, 23)),
         },
         Case {
             h1: H1,
             h2: "H2 60. 1 1 2021 6 1 0 1 0 2021 6 1 0 1 0 0 1 1 0 0 0 1\n",
             rest: ROW,
-            refusal: (16, 2, 2),
+            outcome: Err(Told(16, 2, 2)),
         },
         Case {
             h1: H1,
             h2: H2,
             rest: "H3 1 2 3 4 5 6 7 8 -10000\n",
-            refusal: (17, 3, 10),
+            outcome: Err(Told(17, 3, 10)),
         },
         Case {
             h1: H1,
             h2: H2,
             rest: "H5 100\n",
-            refusal: (17, 3, 2),
+            outcome: Err(Told(17, 3, 2)),
         },
         Case {
             h1: H1,
             h2: H2,
             rest: "H5 1.00001\n",
-            refusal: (16, 3, 2),
+            outcome: Err(Told(16, 3, 2)),
         },
         Case {
             h1: H1,
             h2: H2,
             rest: "H9\n10 1 59366 60 0 1 2 3\n",
-            refusal: (17, 4, 2),
+            outcome: Err(Told(17, 4, 2)),
         },
         Case {
             h1: H1,
             h2: H2,
             rest: "H9\n10 0 40586 60 0 1 2 3\n",
-            refusal: (17, 4, 3),
+            outcome: Err(Told(17, 4, 3)),
         },
         Case {
             h1: H1,
             h2: H2,
             rest: "H9\n10 0 59366 86400 0 1 2 3\n",
-            refusal: (17, 4, 4),
+            outcome: Err(Told(17, 4, 4)),
         },
         Case {
             h1: H1,
             h2: H2,
             rest: "H9\n10 0 59366 60 2 1 2 3\n",
-            refusal: (17, 4, 5),
+            outcome: Err(Told(17, 4, 5)),
         },
         Case {
             h1: H1,
             h2: H2,
             rest: "H9\n10 0 59366 60 0 0.0004 2 3\n",
-            refusal: (16, 4, 6),
+            outcome: Err(Told(16, 4, 6)),
         },
         Case {
             h1: H1,
             h2: H2,
             rest: "H9\n10 0 59366 60 0 1 .5 1e3\n",
-            refusal: (16, 4, 7),
+            outcome: Err(Told(16, 4, 7)),
         },
         Case {
             h1: H1,
             h2: H2,
             rest: "H9\n10 0 59366 60 0 1 2 1234567890123\n",
-            refusal: (16, 4, 8),
+            outcome: Err(Told(16, 4, 8)),
         },
         Case {
             h1: H1,
             h2: H2,
             rest: "H9\n10 0 59366 60 0 1 2 3\n20 0 100000000000 0 0\n",
-            refusal: (17, 5, 3),
+            outcome: Err(Told(17, 5, 3)),
         },
     ];
 
@@ -435,43 +431,43 @@ mod tests {
             h1: H1,
             h2: H2,
             rest: "H9\n10 0 59366 60 0 1 2 3\n10 0 59366 60 0 1 2 3\n",
-            refusal: (18, 5, 0),
+            outcome: Err(Told(18, 5, 0)),
         },
         Case {
             h1: H1,
             h2: H2,
             rest: "H9\n10 0 59366 60 1 1 2 3\n10 0 59366 59 0 1 2 3\n",
-            refusal: (18, 5, 0),
+            outcome: Err(Told(18, 5, 0)),
         },
         Case {
             h1: H1,
             h2: H2,
             rest: "H9\n10 0 59366 60 1 1 2 3\n10 0 59366 61 0 1 2 3\n",
-            refusal: (19, 5, 0),
+            outcome: Err(Told(19, 5, 0)),
         },
         Case {
             h1: H1,
             h2: H2,
             rest: "H9\n10 0 59366 60 0 1 2 3\n10 0 59366 61 0 1 2 3\n10 0 59366 62 0 1 2 3\n10 0 59366 63 0 1 2 3\n10 0 59366 64 0 1 2 3\n",
-            refusal: (21, 8, 0),
+            outcome: Err(Told(21, 8, 0)),
         },
         Case {
             h1: H1,
             h2: H2,
             rest: "H9\n10 0 59366 61 0 1 2 3\n99\n",
-            refusal: (20, 0, 0),
+            outcome: Err(Told(20, 0, 0)),
         },
         Case {
             h1: H1,
             h2: "H2 1 1 1 2021 6 1 0 1 0 2021 6 1 0 1 0 60 1 1 0 0 0 1\n",
             rest: ROW,
-            refusal: (20, 0, 0),
+            outcome: Err(Told(20, 0, 0)),
         },
         Case {
             h1: H1,
             h2: "H2 1 1 1 2021 6 1 0 1 0 2021 6 1 0 1 1 0 1 1 0 0 0 1\n",
             rest: ROW,
-            refusal: (20, 0, 0),
+            outcome: Err(Told(20, 0, 0)),
         },
     ];
 
@@ -485,7 +481,12 @@ mod tests {
     fn run(rt: &impl Abort, heap: Global, cases: &[Case]) -> Result<(), Fail> {
         for case in cases {
             let file = text(heap, case)?;
-            assert_eq!(rt; outcome(file.as_bytes()), case.refusal, "{}", case.rest);
+            assert_eq!(rt;
+                outcome(file.as_bytes(), &mut [Row::blank(); 4]),
+                case.outcome,
+                "{}",
+                case.rest
+            );
         }
         Ok(())
     }
@@ -508,19 +509,25 @@ mod tests {
             h1: H1,
             h2: H2,
             rest: ROW,
-            refusal: (21, 4, 0),
+            outcome: Err(Told(21, 4, 0)),
         };
         let file = text(rt.alloc(), &case)?;
-        assert_eq!(rt; outcome_without_memory(file.as_bytes()), case.refusal);
+        assert_eq!(rt; outcome(file.as_bytes(), &mut []), case.outcome);
         Ok(())
     }
 
     #[test]
     fn too_long(rt: HostRuntime) -> Result<(), Fail> {
         let longest = vec![in rt.alloc(); b' '; 2_097_152]?;
-        assert_eq!(rt; outcome(&longest), (11, 1, 0));
+        assert_eq!(rt;
+            outcome(&longest, &mut [Row::blank(); 4]),
+            Err(Told(11, 1, 0))
+        );
         let longer = vec![in rt.alloc(); b' '; 2_097_153]?;
-        assert_eq!(rt; outcome(&longer), (12, 0, 0));
+        assert_eq!(rt;
+            outcome(&longer, &mut [Row::blank(); 4]),
+            Err(Told(12, 0, 0))
+        );
         Ok(())
     }
 
@@ -528,29 +535,35 @@ mod tests {
     fn blocks(rt: HostRuntime) {
         assert_eq!(rt;
             block_outcome(b"10 0 59366 60 0 1 2 3\n00\n10 0 59366 61 0 1 2 3\n"),
-            (0, 0, 0)
+            Ok(())
         );
         assert_eq!(rt;
             block_outcome(b"00\n10 0 59366 60 0 1 2 3\n20 0 1 2 3\n"),
-            (0, 0, 0)
+            Ok(())
         );
-        assert_eq!(rt; block_outcome(b""), (14, 1, 0));
-        assert_eq!(rt; block_outcome(b"00\n00\n"), (14, 3, 0));
-        assert_eq!(rt; block_outcome(b"H9\n"), (14, 1, 0));
-        assert_eq!(rt; block_outcome(b"10 0 59366 60 0 1 2 3\n99\n"), (14, 2, 0));
+        assert_eq!(rt; block_outcome(b""), Err(Told(14, 1, 0)));
+        assert_eq!(rt; block_outcome(b"00\n00\n"), Err(Told(14, 3, 0)));
+        assert_eq!(rt; block_outcome(b"H9\n"), Err(Told(14, 1, 0)));
+        assert_eq!(rt;
+            block_outcome(b"10 0 59366 60 0 1 2 3\n99\n"),
+            Err(Told(14, 2, 0))
+        );
         assert_eq!(rt;
             block_outcome(b"10 0 59366 60 0 1 2 3\n20 0 1 2 3\n10 0 59366 61 0 1 2 3\n"),
-            (14, 4, 0)
+            Err(Told(14, 4, 0))
         );
         assert_eq!(rt;
             block_outcome(b"10 0 59366 60 0 1 2 3\n10 0 59366 60 0 1 2 3\n"),
-            (18, 2, 0)
+            Err(Told(18, 2, 0))
         );
         assert_eq!(rt;
             block_outcome(b"10 0 59366 60 1 1 2 3\n10 0 59366 61 -1 1 2 3\n"),
-            (19, 2, 0)
+            Err(Told(19, 2, 0))
         );
-        assert_eq!(rt; block_outcome(b"10 0 59366 60 0 1 2 3x\n"), (16, 1, 8));
+        assert_eq!(rt;
+            block_outcome(b"10 0 59366 60 0 1 2 3x\n"),
+            Err(Told(16, 1, 8))
+        );
     }
 
     const FULLEST: &str = "H2 1 1 1 2021 6 1 0 0 0 2021 6 1 2 16 31 1 1 1 0 0 0 1\n";
@@ -574,22 +587,12 @@ mod tests {
         let fullest = rows_of(rt.alloc(), 8_192)?;
         assert!(rt; sheet.open(fullest.as_bytes()).is_ok());
         let fuller = rows_of(rt.alloc(), 8_193)?;
-        match sheet.open(fuller.as_bytes()) {
-            Ok(()) => assert!(rt; false),
-            Err(refusal) => assert_eq!(rt;
-                (refusal.number(), refusal.line(), refusal.word()),
-                (21, 8_196, 0)
-            ),
-        }
-        match sheet.cells() {
-            Ok(cells) => {
-                assert_eq!(rt; (cells.count, cells.interval), (8_192, 1));
-                Ok(())
-            },
-            Err(refusal) => {
-                assert_eq!(rt; refusal.number(), 0);
-                Ok(())
-            },
-        }
+        assert_eq!(rt;
+            sheet.open(fuller.as_bytes()).map_err(Told::from),
+            Err(Told(21, 8_196, 0))
+        );
+        let cells = sheet.cells().map(|cells| (cells.count, cells.interval));
+        assert_eq!(rt; cells, Ok((8_192, 1)));
+        Ok(())
     }
 }

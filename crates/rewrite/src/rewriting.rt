@@ -13,8 +13,8 @@ pub const LONGEST_INPUT: usize = 65_536;
 /// The output space: the canonical file of an accepted input is never longer.
 pub const LONGEST_OUTPUT: usize = 65_536;
 
-/// The memory for rows.
-pub const MOST_ROWS: usize = 256;
+/// The memory for rows, in rows.
+pub const ROW_MEMORY: usize = 256;
 
 /// Opens the input in a sheet over the memory given, and writes its canonical file to the output: its length, or the refusal.
 /// Longer input than 65,536 bytes is 12 with line 0.

@@ -1,6 +1,9 @@
 //! The commands of a script.
+use crate::failure::Failure;
+use calendar::instant::Timestamp;
 
 /// What a line of a script asks for.
+// Kept: not the commands of the crate commands, which takes more and refuses in other words than this program prints.
 pub enum Command<'l> {
     Open(&'l str),
     Cells,
@@ -8,51 +11,48 @@ pub enum Command<'l> {
     Write(&'l str),
     /// The row of a number counted from 0.
     Row(usize),
-    /// The window at a day and microseconds of the day.
-    Window(u32, u64),
+    /// The window around an instant as it is written.
+    Window(Timestamp),
     /// An empty line, or one that begins with `#`.
     Nothing,
-    Unknown,
 }
 
-impl<'l> Command<'l> {
-    pub fn of(line: &'l str) -> Command<'l> {
+/// An unknown command where the line asks for nothing that there is.
+impl<'l> TryFrom<&'l str> for Command<'l> {
+    type Error = Failure<'l>;
+
+    fn try_from(line: &'l str) -> Result<Command<'l>, Failure<'l>> {
         if line.is_empty() || line.starts_with('#') {
-            return Command::Nothing;
+            return Ok(Command::Nothing);
         }
-        if let Some(path) = line.strip_prefix("open ") {
-            return Command::Open(path);
-        }
-        if let Some(path) = line.strip_prefix("write ") {
-            return Command::Write(path);
-        }
-        if let Some(words) = line.strip_prefix("row ") {
-            return row(words);
-        }
-        if let Some(words) = line.strip_prefix("window ") {
-            return window(words);
-        }
-        match line {
-            "cells" => Command::Cells,
-            "show" => Command::Show,
-            _ => Command::Unknown,
-        }
+        let command = match line.split_once(' ') {
+            Some((name, words)) => with_words(name, words),
+            None => without_words(line),
+        };
+        command.ok_or(Failure::Unknown(line))
     }
 }
 
-fn row<'l>(words: &str) -> Command<'l> {
-    match words.parse::<usize>() {
-        Ok(number) => Command::Row(number),
-        Err(_) => Command::Unknown,
+fn without_words<'l>(name: &str) -> Option<Command<'l>> {
+    match name {
+        "cells" => Some(Command::Cells),
+        "show" => Some(Command::Show),
+        _ => None,
     }
 }
 
-fn window<'l>(words: &str) -> Command<'l> {
-    let Some((day, micros)) = words.split_once(' ') else {
-        return Command::Unknown;
-    };
-    match (day.parse::<u32>(), micros.parse::<u64>()) {
-        (Ok(day), Ok(micros)) => Command::Window(day, micros),
-        _ => Command::Unknown,
+fn with_words<'l>(name: &str, words: &'l str) -> Option<Command<'l>> {
+    match name {
+        "open" => Some(Command::Open(words)),
+        "write" => Some(Command::Write(words)),
+        "row" => Some(Command::Row(words.parse().ok()?)),
+        "window" => {
+            let (day, micros) = words.split_once(' ')?;
+            Some(Command::Window(Timestamp {
+                day: day.parse().ok()?,
+                micros: micros.parse().ok()?,
+            }))
+        }
+        _ => None,
     }
 }

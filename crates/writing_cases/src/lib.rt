@@ -14,12 +14,6 @@ pub fn rewritten(file: &[u8], out: &mut [u8]) -> Result<usize, Refusal> {
     sheet.write(out)
 }
 
-/// The same with the first `n` bytes of the output alone.
-pub fn rewritten_within(file: &[u8], out: &mut [u8], n: usize) -> Result<usize, Refusal> {
-    let n = n.min(out.len());
-    rewritten(file, &mut out[0..n])
-}
-
 /// Writes a sheet in which nothing is open.
 pub fn unopened(out: &mut [u8]) -> Result<usize, Refusal> {
     let sheet = Sheet::new(&mut [], &mut []);
@@ -62,19 +56,8 @@ mod tests {
         },
     ];
 
-    fn number(answer: Result<usize, Refusal>) -> u8 {
-        match answer {
-            Ok(_) => 0,
-            Err(refusal) => refusal.number(),
-        }
-    }
-
-    fn begins(out: &[u8], text: &[u8]) -> bool {
-        out.len() >= text.len() && &out[0..text.len()] == text
-    }
-
-    fn holds(out: &[u8], i: usize, byte: u8) -> bool {
-        i < out.len() && out[i] == byte
+    fn numbered(answer: Result<usize, Refusal>) -> Result<usize, u8> {
+        answer.map_err(|refusal| refusal.number())
     }
 
     // one byte too short leaves the output as it was
@@ -83,10 +66,10 @@ mod tests {
         let mut out = [7u8; 1024];
         assert!(rt; n > 0 && n < 1000);
         assert_eq!(rt;
-            number(rewritten_within(case.file.as_bytes(), &mut out, n - 1)),
-            33
+            numbered(rewritten(case.file.as_bytes(), &mut out[..n - 1])),
+            Err(33)
         );
-        assert!(rt; begins(&out, &[7u8; 1024]));
+        assert!(rt; out == [7u8; 1024]);
     }
 
     // just right, and the bytes behind stay
@@ -95,33 +78,34 @@ mod tests {
         let mut out = [7u8; 1024];
         assert!(rt; n < 1000);
         assert_eq!(rt;
-            number(rewritten_within(case.file.as_bytes(), &mut out, n)),
-            0
+            numbered(rewritten(case.file.as_bytes(), &mut out[..n])),
+            Ok(n)
         );
         assert!(rt;
-            begins(&out, case.canonical.as_bytes()),
+            out.starts_with(case.canonical.as_bytes()),
             "{}",
             case.canonical
         );
-        assert!(rt; holds(&out, n, 7));
+        assert!(rt; out.get(n) == Some(&7));
     }
 
     // more than enough
     fn wide(rt: &impl Abort, case: Case) {
+        let n = case.canonical.len();
         let mut out = [8u8; 1024];
-        match rewritten(case.file.as_bytes(), &mut out) {
-            Ok(len) => assert_eq!(rt; len, case.canonical.len()),
-            Err(refusal) => assert_eq!(rt; refusal.number(), 0),
-        }
-        assert!(rt; begins(&out, case.canonical.as_bytes()));
-        assert!(rt; holds(&out, case.canonical.len(), 8));
+        assert_eq!(rt; numbered(rewritten(case.file.as_bytes(), &mut out)), Ok(n));
+        assert!(rt; out.starts_with(case.canonical.as_bytes()));
+        assert!(rt; out.get(n) == Some(&8));
     }
 
     // what was written is read back and written in the same way
     fn again(rt: &impl Abort, case: Case) {
         let mut out = [9u8; 1024];
-        assert_eq!(rt; number(rewritten(case.canonical.as_bytes(), &mut out)), 0);
-        assert!(rt; begins(&out, case.canonical.as_bytes()));
+        assert_eq!(rt;
+            numbered(rewritten(case.canonical.as_bytes(), &mut out)),
+            Ok(case.canonical.len())
+        );
+        assert!(rt; out.starts_with(case.canonical.as_bytes()));
     }
 
     #[test]
@@ -137,7 +121,7 @@ mod tests {
     #[test]
     fn nothing_open(rt: HostRuntime) {
         let mut out = [7u8; 4];
-        assert_eq!(rt; number(unopened(&mut out)), 24);
-        assert!(rt; begins(&out, &[7u8; 4]));
+        assert_eq!(rt; numbered(unopened(&mut out)), Err(24));
+        assert!(rt; out == [7u8; 4]);
     }
 }
