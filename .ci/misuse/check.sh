@@ -9,7 +9,7 @@ trap 'rm -rf "$copy"' EXIT
 cp -r "$root/crates" "$root/crates.txt" "$copy"
 mkdir -p "$copy/crates/lender/src" "$copy/crates/lender/specs"
 : > "$copy/crates/lender/specs/Lib.antt"
-echo "lender: refusal model sheet" >> "$copy/crates.txt"
+echo "lender: refusal model closed_sheet sheet" >> "$copy/crates.txt"
 cd "$copy"
 source=crates/lender/src/lib.rt
 accepted() {
