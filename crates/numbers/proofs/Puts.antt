@@ -1,5 +1,5 @@
 -- The steps of writing a text from its end.
-use Rattle.std.proofs.Common.{◌*◌, ⊎_elim, append-nil, ◌≡◌, ℕ, zero, suc, ◌+◌, ◌-◌, ◌/◌, ◌%◌, ◌^◌, ◌<◌, ◌≤◌, List, [], ◌∷◌, ◌++◌, length, drop, set, ℤ, pos, negsuc, nat_abs, ◌≤ℤ◌, ◌<ℤ◌, decimal, sym, refl, ap, ◌∙◌, append_assoc, div-one, arith}
+use Rattle.std.proofs.Common.{◌*◌, ⊎_elim, append-nil, ◌≡◌, ℕ, zero, suc, ◌+◌, ◌-◌, ◌/◌, ◌%◌, ◌^◌, ◌<◌, ◌≤◌, max, List, [], ◌∷◌, ◌++◌, length, drop, set, ℤ, pos, negsuc, nat_abs, ◌≤ℤ◌, ◌<ℤ◌, decimal, sym, refl, ap, ◌∙◌, append_assoc, div-one, arith}
 use native.Mathlib.Nat.{div-div-eq-div-mul, pow-succ', one-le-pow}
 use Rattle.std.proofs.lemmas.Fmt.{decimal_step, decimal_digit, decimal_nonempty}
 use Rattle.std.proofs.lemmas.List.{drop_all, drop-set, length_push}
@@ -39,6 +39,18 @@ length_step n h k = ap length (decimal_step n h k) ∙ length_push (decimal (n /
 
 pub length_one : (n : ℕ) → n < 10 → length (decimal n) ≡ 1
 length_one n h = ap length (decimal_digit n h)
+
+-- the digits before the point and one for each place: those of the number, or one more than the places
+pub length_whole : (d n : ℕ) → n < 2 ^ 64 → length (decimal (n / 10 ^ d)) + d ≡ max (length (decimal n)) (d + 1)
+length_whole zero n h = omega (arith, ap (λ m. length (decimal m)) (div-one n), decimal_nonempty n h)
+length_whole (suc d) n h =
+    let step : n / 10 / 10 ^ d ≡ n / 10 ^ suc d = div-div-eq-div-mul n 10 (10 ^ d) ∙ ap (λ p. n / p) (sym (pow-succ' 10 d)) in
+    let same = ap (λ m. length (decimal m)) step in
+    let rest = length_whole d (n / 10) (omega arith) in
+    ⊎_elim
+    (λ (s : n < 10). omega (arith, same, rest, length_one n s, length_one (n / 10) (omega arith)))
+    (λ (l : 10 ≤ n). omega (arith, same, rest, length_step n l h))
+    (cases_lt n 10)
 
 pub length_is : (k n : ℕ) → 10 ^ k ≤ n → n < 10 * 10 ^ k → n < 2 ^ 64 → k + 1 ≡ length (decimal n)
 length_is zero n low high fit = omega (arith, length_one n (omega arith))

@@ -3,16 +3,6 @@
 ghost use Rattle.std.specs.Prelude.{◌≡◌, ◌/◌, ◌^◌, ◌≤◌, length, decimal};
 ghost use Rattle.numbers.specs.Texts.{last_digits, unsigned_text, text_of, right_text, two_digits};
 
-/// The value without its digits after the point.
-fn whole_part(value: u64, places: u8) -> u64
-    ensures { result ≡ value / 10 ^ places }
-{
-    match 10u64.checked_pow(u32::from(places)) {
-        Some(power) => value / power,
-        None => 0,
-    }
-}
-
 /// How many digits the value has.
 fn digit_count(value: u64) -> usize
     ensures { result ≡ length (decimal value) }
@@ -27,11 +17,12 @@ fn digit_count(value: u64) -> usize
 fn unsigned_len(value: u64, places: u8) -> usize
     ensures { result ≡ length (unsigned_text value places) }
 {
-    let digits = digit_count(whole_part(value, places));
+    let digits = digit_count(value);
     if places == 0 {
         digits
     } else {
-        digits + 1 + usize::from(places)
+        // one digit or more before the point
+        digits.max(usize::from(places) + 1) + 1
     }
 }
 

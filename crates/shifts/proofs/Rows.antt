@@ -11,7 +11,6 @@ use Rattle.tables.specs.declared.lines.RowAndEnds.{RowAndEnds}
 use Rattle.tables.specs.Ends.{EndsRead}
 use Rattle.tables.specs.Lines.{time_of, place, Ascending}
 use Rattle.tables.proofs.Places.{place_read, place_within, place_map, place_map_err}
-use Rattle.std.specs.Result.{result_unwrap_or}
 use Rattle.tables.proofs.Orders.{up_lt, up_le, same_length}
 use Rattle.shifts.specs.Shifts.{moved, stays, move_instant, move_row, move_row_if, read_stays, move_read, move_read_if, all_stay, shift_rows}
 
@@ -192,9 +191,3 @@ read_kept s s' rs i read d z k e =
     let f = cond_err (read_stays s read) (move_read s read) d _ (e ∙ ap (λ (v : ℤ). move_read_if v read) z) in
     let a : all_stay s rs ≡ false = sym (read_stays_lem s rs i read k) ∙ f.0 in
     rw a k
-
--- what a table under a shift reads, where the rows may not be moved those that it is over
-pub read_shifted : (s s' : ℤ) (read got : RowAndEnds) (moved : Result RowAndEnds Refusal) → s' ≡ s → moved ≡ move_read_if s' read → got ≡ result_unwrap_or moved read
-    → (rs : List Row) (i : ℕ) → EndsRead rs i read → EndsRead (shift_rows s rs) i got
-read_shifted s s' read got (Ok x) z e g rs i k = rw g (read_moved s s' rs i read x z k e)
-read_shifted s s' read got (Err d) z e g rs i k = rw g (read_kept s s' rs i read d z k e)

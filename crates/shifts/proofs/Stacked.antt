@@ -1,21 +1,22 @@
-use Rattle.std.proofs.Common.{◌≡◌, ℕ, suc, ◌+◌, ◌*◌, ◌-◌, ◌<◌, ◌≤◌, Bool, true, cond, leb, List, [], ◌∷◌, map, length, get_or, take, drop, ℤ, pos, negsuc, ◌+ℤ◌, nat_abs, Result, sym, refl, ap, ◌∙◌, inl, inr, arith}
+use Rattle.std.proofs.Common.{◌≡◌, ℕ, zero, suc, ◌+◌, ◌*◌, ◌<◌, Bool, true, false, cond, leb, ◌&&◌, List, [], ◌∷◌, map, length, get_or, drop, ℤ, pos, negsuc, ◌+ℤ◌, nat_abs, Ok, Err, Result, sym, refl, ap, ◌∙◌, inl, inr, arith}
 use lib.IntN.{+ℤ_assoc, +ℤ_idr}
 use lib.Signed.{le_z}
 use Rattle.std.proofs.lemmas.Int.{ints}
-use Rattle.std.proofs.lemmas.Bool.{and_parts, cases_Bool}
-use Rattle.std.proofs.lemmas.List.{length-map, take_all}
+use Rattle.std.proofs.lemmas.Bool.{and_parts, and_right, cases_Bool}
+use Rattle.std.proofs.lemmas.List.{at_drop_more, length-map}
 use Rattle.refusal.specs.declared.Refusal.{Refusal}
+use Rattle.refusal.specs.declared.Refusal.TheVariants.{ShiftTooLarge}
 use Rattle.calendar.specs.declared.instant.Instant.{Instant}
 use Rattle.calendar.specs.Instants.{moment, instant_of}
 use Rattle.calendar.proofs.Moments.{instant_of_pair}
 use Rattle.model.specs.declared.Row.{Row}
 use Rattle.model.specs.declared.LeapFlag.{LeapFlag}
-use Rattle.tables.specs.Lines.{time_of, not_after, Ascending}
+use Rattle.tables.specs.Lines.{time_of, not_after, Ascending, place}
 use Rattle.tables.proofs.Orders.{same_length}
 use Rattle.tables.specs.Windows.{flag_of, window_at, window_of, window_if}
-use Rattle.shifts.specs.Shifts.{moved, stays, move_row, all_stay, shift_rows, accepts}
+use Rattle.shifts.specs.Shifts.{moved, stays, move_row, all_stay, shift_rows, accepts, shift_answer}
 use Rattle.shifts.specs.Stacks.{piled, total, StackedShifts, all_accepted, sum_of, window_under, AnswersAsBelow}
-use Rattle.shifts.proofs.Rows.{stays_bounds, moment_moved, length_shifted, up_shifted}
+use Rattle.shifts.proofs.Rows.{stays_bounds, moment_moved, length_shifted, shifted_err, up_shifted, cond_ok, cond_err}
 
 -- how many instants are not after a moment that may lie outside the calendar, as one between two shifts may
 abbrev not_after_z : List Instant → ℤ → ℕ
@@ -94,10 +95,49 @@ pub accepted_answers : (ss : List ℤ) (rs : List Row) (day micros : ℕ) (answe
 accepted_answers ss rs day micros answer a h low c e =
     stack_answers ss rs day micros answer (a ∙ rw h) low c (e ∙ ap (λ (t : ℤ). pos (moment low) +ℤ t) (sym (total_accepted ss rs h)))
 
--- the topmost shift s moves the rows under the others
-pub piled_step : (ss : List ℤ) (rs : List Row) (s : ℤ) → 1 ≤ length ss → s ≡ get_or ss 0 (pos 0) → shift_rows s (piled (take (length ss - 1) (drop 1 ss)) rs) ≡ piled ss rs
-piled_step [] rs s h e = absurd (omega arith)
-piled_step (x ∷ ss) rs s h e = λ i. shift_rows (e i) (piled (take_all (suc (length ss) - 1) ss (omega arith) i) rs)
+-- one shift set in a table: taken or refused
+pub shift_taken : (s s' : ℤ) (rs qs after : List Row) (old new : ℤ) → s' ≡ s → qs ≡ rs → after ≡ qs → Ok tt ≡ shift_answer s' qs → new ≡ cond (accepts s' qs) s' old
+    → (accepts s rs ≡ true) × (shift_rows new after ≡ shift_rows s rs)
+shift_taken s s' rs qs after old new z q a e n =
+    let t = (cond_ok (accepts s' qs) tt tt ShiftTooLarge e).0 in
+    let v : new ≡ s = rw t at n ∙ z in
+    (ap (λ (x : ℤ). accepts x rs) (sym z) ∙ ap (accepts s') (sym q) ∙ t, ap (λ (x : ℤ). shift_rows x after) v ∙ ap (shift_rows s) (a ∙ q))
+
+pub shift_refused : (s s' : ℤ) (rs qs : List Row) (e : Refusal) → s' ≡ s → qs ≡ rs → Err e ≡ shift_answer s' qs → (accepts s rs ≡ false) × (e ≡ ShiftTooLarge)
+shift_refused s s' rs qs e z q a = cond_err (accepts s rs) tt e ShiftTooLarge (a ∙ ap (λ (x : ℤ). shift_answer x qs) z ∙ ap (shift_answer s) q)
+
+-- the answer of a stack whose lowest shift is refused, and that of one whose lowest shift is accepted
+pub under_refused : (s : ℤ) (rs : List Row) (day micros : ℕ) (e : Refusal) → (accepts s rs ≡ false) × (e ≡ ShiftTooLarge) → Err e ≡ window_under (s ∷ []) rs day micros
+under_refused s rs day micros e q = rw (q.0, q.1)
+
+pub under_one : (s : ℤ) (rs below : List Row) (day micros : ℕ) (answer : Result ℕ Refusal) → (accepts s rs ≡ true) × (below ≡ shift_rows s rs)
+    → answer ≡ window_if below day micros → answer ≡ window_under (s ∷ []) rs day micros
+under_one s rs below day micros answer q a = a ∙ ap (λ (l : List Row). window_if l day micros) q.1 ∙ rw q.0
+
+-- a number that no row has is none under a stack
+pub piled_err : (ss : List ℤ) (rs : List Row) (i : ℕ) (r : Refusal) → Err r ≡ place rs i → Err r ≡ place (piled ss rs) i
+piled_err [] rs i r p = p
+piled_err (s ∷ ss) rs i r p = shifted_err s (piled ss rs) i r (piled_err ss rs i r p)
+
+-- the shift at place n moves the rows under those below it
+pub piled_at : (ss : List ℤ) (rs : List Row) (n : ℕ) (s : ℤ) → n < length ss → s ≡ get_or ss n (pos 0) → shift_rows s (piled (drop (n + 1) ss) rs) ≡ piled (drop n ss) rs
+piled_at ss rs n s h e = ap (λ x. shift_rows x (piled (drop (n + 1) ss) rs)) e ∙ sym (at_drop_more (λ l. piled l rs) ss n (pos 0) h)
+
+-- and is taken over them or not
+accepted_at : (ss : List ℤ) (rs : List Row) (n : ℕ) (s : ℤ) → n < length ss → s ≡ get_or ss n (pos 0) → (all_accepted (drop (n + 1) ss) rs && accepts s (piled (drop (n + 1) ss) rs)) ≡ all_accepted (drop n ss) rs
+accepted_at ss rs n s h e = ap (λ x. all_accepted (drop (n + 1) ss) rs && accepts x (piled (drop (n + 1) ss) rs)) e ∙ sym (at_drop_more (λ l. all_accepted l rs) ss n (pos 0) h)
+
+-- a shift that is refused refuses the stack
+refused_below : (k : ℕ) (ss : List ℤ) (rs : List Row) → all_accepted (drop k ss) rs ≡ false → all_accepted ss rs ≡ false
+refused_below zero ss rs h = h
+refused_below (suc k) [] rs h = h
+refused_below (suc k) (s ∷ ss) rs h = ap (λ b. b && accepts s (piled ss rs)) (refused_below k ss rs h)
+
+pub refused_at : (ss : List ℤ) (rs : List Row) (n : ℕ) (s : ℤ) (lower : List ℤ) → n < length ss → s ≡ get_or ss n (pos 0) → lower ≡ drop (n + 1) ss → false ≡ accepts s (piled lower rs) → false ≡ all_accepted ss rs
+refused_at ss rs n s lower h e f told =
+    let below = drop (n + 1) ss in
+    let here : accepts s (piled below rs) ≡ false = ap (λ l. accepts s (piled l rs)) (sym f) ∙ sym told in
+    sym (refused_below n ss rs (sym (accepted_at ss rs n s h e) ∙ and_right (all_accepted below rs) (accepts s (piled below rs)) here))
 
 -- the shape of rows under a stack
 length_piled : (ss : List ℤ) (rs : List Row) → length (piled ss rs) ≡ length rs

@@ -1,7 +1,8 @@
 //! Rows moved in time.
-ghost use Rattle.std.specs.Prelude.{◌≡◌, ℕ, List};
+ghost use Rattle.std.specs.Prelude.{◌≡◌, ℕ, List, Err, MatchResult};
 ghost use Rattle.model.specs.declared.Row.{Row};
 ghost use Rattle.tables.specs.Ends.{EndsRead};
+ghost use Rattle.tables.specs.Lines.{place};
 ghost use Rattle.shifts.specs.Shifts.{move_row_if, move_read_if, all_stay, accepts, shift_rows};
 
 use calendar::instant::Instant;
@@ -48,8 +49,30 @@ pub fn accepts<T: PredictionTable>(below: &T, shift: i64) -> bool
 }
 
 /// What a table under a shift reads where the table below reads this.
-pub fn shifted_read(read: RowAndEnds, shift: i64) -> RowAndEnds
+pub fn moved_read(read: RowAndEnds, shift: i64) -> RowAndEnds
     ensures { (rows : List Row) (i : ℕ) → EndsRead rows i read → EndsRead (shift_rows shift rows) i result }
 {
-    move_read(read, shift).unwrap_or(read)
+    // Kept: a match. `unwrap_or` hands the three rows on once more.
+    match move_read(read, shift) {
+        Ok(moved) => moved,
+        Err(_) => read,
+    }
+}
+
+/// What a shifted table reads: one call of the table below.
+// Kept: matches, and not `moved_read` after a `?`, with which a window under one shift took ten times as long.
+pub fn shifted_read<T: PredictionTable>(
+    below: &T,
+    shift: i64,
+    i: usize,
+) -> Result<RowAndEnds, Refusal>
+    ensures { MatchResult result (λ read. EndsRead (shift_rows shift (T.PredictionTable.rows below.now)) i read) (λ e. Err e ≡ place (shift_rows shift (T.PredictionTable.rows below.now)) i) }
+{
+    match below.row_and_ends(i) {
+        Ok(read) => match move_read(read, shift) {
+            Ok(moved) => Ok(moved),
+            Err(_) => Ok(read),
+        },
+        Err(e) => Err(e),
+    }
 }

@@ -55,7 +55,10 @@ impl<'t, T: PredictionTable> TimeLine for Shifted<'t, T> {
     }
 
     fn instant(&self, i: usize) -> Result<Instant, Refusal> {
-        Ok(self.row_and_ends(i)?.row.at)
+        match shifted_read(self.below, self.shift, i) {
+            Ok(read) => Ok(read.row.at),
+            Err(e) => Err(e),
+        }
     }
 }
 
@@ -65,10 +68,13 @@ impl<'t, T: PredictionTable> PredictionTable for Shifted<'t, T> {
     fn by_rows(&self) {}
 
     fn row(&self, i: usize) -> Result<Row, Refusal> {
-        Ok(self.row_and_ends(i)?.row)
+        match shifted_read(self.below, self.shift, i) {
+            Ok(read) => Ok(read.row),
+            Err(e) => Err(e),
+        }
     }
 
     fn row_and_ends(&self, i: usize) -> Result<RowAndEnds, Refusal> {
-        Ok(shifted_read(self.below.row_and_ends(i)?, self.shift))
+        shifted_read(self.below, self.shift, i)
     }
 }

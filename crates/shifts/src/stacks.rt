@@ -5,7 +5,7 @@ ghost use Rattle.tables.specs.Lines.{place, time_of};
 ghost use Rattle.tables.specs.Windows.{window_if};
 ghost use Rattle.shifts.specs.Stacks.{piled, total, sum_of, all_accepted, StackedShifts, AnswersAsBelow, window_under};
 
-use crate::moves::{accepts, shifted_read};
+use crate::moves::{accepts, moved_read};
 use crate::shifted::Shifted;
 use calendar::instant::{Instant, Timestamp};
 use model::Row;
@@ -37,7 +37,7 @@ struct Stack<'t, T: PredictionTable> {
     shifts: &'t [i64],
 }
 
-/// What such a table reads: one call of the table below.
+/// What such a table reads: one call of the table below, then each shift, the lowest first.
 fn stacked_read<T: PredictionTable>(
     below: &T,
     shifts: &[i64],
@@ -45,10 +45,11 @@ fn stacked_read<T: PredictionTable>(
 ) -> Result<RowAndEnds, Refusal>
     ensures { MatchResult result (λ read. EndsRead (piled shifts.now (T.PredictionTable.rows below.now)) i read) (λ e. Err e ≡ place (piled shifts.now (T.PredictionTable.rows below.now)) i) }
 {
-    match shifts {
-        [] => below.row_and_ends(i),
-        [top, lower @ ..] => Ok(shifted_read(stacked_read(below, lower, i)?, *top)),
+    let mut read = below.row_and_ends(i)?;
+    for n in (0..shifts.len()).rev() {
+        read = moved_read(read, shifts[n]);
     }
+    Ok(read)
 }
 
 impl<'t, T: PredictionTable> TimeLine for Stack<'t, T> {
@@ -87,16 +88,16 @@ impl<'t, T: PredictionTable> PredictionTable for Stack<'t, T> {
 fn all_accepted<T: PredictionTable>(below: &T, shifts: &[i64]) -> bool
     ensures { result ≡ all_accepted shifts.now (T.PredictionTable.rows below.now) }
 {
-    match shifts {
-        [] => true,
-        [top, lower @ ..] => {
-            let under = Stack {
-                below,
-                shifts: lower,
-            };
-            all_accepted(below, lower) && accepts(&under, *top)
+    for n in (0..shifts.len()).rev() {
+        let under = Stack {
+            below,
+            shifts: &shifts[n + 1..],
+        };
+        if !accepts(&under, shifts[n]) {
+            return false;
         }
     }
+    true
 }
 
 /// The window of a table under a stack of shifts, the topmost first. The table may be any prediction table, also a
@@ -116,15 +117,19 @@ pub fn window_under_all<T: PredictionTable>(
 }
 
 /// The window of a table under a shift.
-// Kept: these three stay as public calls of their own, each a line over window_under_all.
+// Kept: a table of its own, and not `window_under_all(t, &[shift], at)`, which answers the same and took twenty times as long: here
+// the compiler sees one shift over the table.
 pub fn window_under<T: PredictionTable>(t: &T, shift: i64, at: Timestamp) -> Result<usize, Refusal>
     ensures answer { result ≡ window_under (shift ∷ []) (T.PredictionTable.rows t.now) at.day at.micros }
     ensures law { all_accepted (shift ∷ []) (T.PredictionTable.rows t.now) ≡ true → AnswersAsBelow (sum_of (shift ∷ [])) (T.PredictionTable.rows t.now) at.day at.micros result }
 {
-    window_under_all(t, &[shift], at)
+    let mut shifted = Shifted::new(t);
+    shifted.set_shift(shift)?;
+    window(&shifted, at)
 }
 
 /// The window of a table under two shifts, one over the other.
+// Kept: this and the next stay as public calls of their own, each a line over window_under_all.
 pub fn window_under_two<T: PredictionTable>(
     t: &T,
     low: i64,

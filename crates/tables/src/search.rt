@@ -12,12 +12,15 @@ pub fn count_not_after<T: TimeLine>(t: &T, at: Instant) -> usize
 {
     // Kept: the halving by hand. A time line may compute its instants, so there is no slice to search; no other search is here.
     t.in_order();
+    // Kept: moments are compared, not instants: one number for each, where the derived order asks for the day first. The search
+    // took half as long again with it.
+    let limit = at.joined();
     let mut low = 0;
     let mut high = t.count();
     while low < high {
         let middle = low + (high - low) / 2;
         let here = t.instant(middle).unwrap();
-        if here <= at {
+        if here.joined() <= limit {
             low = middle + 1;
         } else {
             high = middle;

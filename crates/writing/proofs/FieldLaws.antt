@@ -1,6 +1,5 @@
 -- The text of a value in its field: its form, and how long it is.
-use Rattle.std.proofs.Common.{◌≡◌, ℕ, suc, ◌+◌, ◌-◌, ◌≤◌, min, max, ◌⊎◌, List, [], ◌∷◌, length, take, drop, ℤ, pos, negsuc, refl, ap, inl, inr, arith, w64, SFits}
-use native.Mathlib.Nat.{sub_self}
+use Rattle.std.proofs.Common.{◌≡◌, ℕ, zero, suc, ◌+◌, ◌-◌, ◌≤◌, min, max, ◌⊎◌, List, [], ◌∷◌, length, take, drop, ℤ, pos, negsuc, refl, ap, inl, inr, arith, w64, SFits}
 use Rattle.std.proofs.lemmas.List.{length-append, length-replicate, length-take, length-drop}
 use Rattle.model.specs.declared.name.Name.{Name}
 use Rattle.model.specs.Names.{name_text}
@@ -28,11 +27,14 @@ number_room_lem Plain d v ne = omega arith
 number_room_lem TwoDigits d v ne = absurd (ne refl)
 number_room_lem (Right width) d v ne = omega (arith, length_right v d width)
 
-pub number_right : (how : Layout) (d : ℕ) (v : ℤ) → (how ≡ TwoDigits → ⊥) → right_text v d (length (number_text how d v)) ≡ number_text how d v
-number_right Plain d v ne = rw sub_self
-number_right TwoDigits d v ne = absurd (ne refl)
-number_right (Right width) d v ne =
-    let e : length (right_text v d width) - length (text_of v d) ≡ width - length (text_of v d) = omega (arith, length_right v d width) in
+-- at the right of a field that is one byte longer, a number has a space before it
+pub number_spaced : (how : Layout) (d : ℕ) (v : ℤ) → (how ≡ TwoDigits → ⊥) → right_text v d (length (number_text how d v) + 1) ≡ 32 ∷ number_text how d v
+number_spaced Plain d v ne =
+    let e : length (text_of v d) + 1 - length (text_of v d) ≡ suc zero = omega arith in
+    rw e
+number_spaced TwoDigits d v ne = absurd (ne refl)
+number_spaced (Right width) d v ne =
+    let e : length (right_text v d width) + 1 - length (text_of v d) ≡ suc (width - length (text_of v d)) = omega (arith, length_right v d width) in
     rw e
 
 -- how long a part of the output is

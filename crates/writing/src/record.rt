@@ -29,7 +29,6 @@ impl Output<'_> {
         ensures { Puts (301 * length fields.now) self.old (fields_text fields.now values.now) self.new }
     {
         for (field, value) in fields.iter().zip(values) {
-            self.put(b" ");
             self.put_field(*field, *value);
         }
     }

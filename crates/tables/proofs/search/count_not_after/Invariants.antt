@@ -8,8 +8,8 @@ abbrev pub invariant-loop-low : goal.invariant-loop-low
 invariant-loop-low g l =
     (l.low ≤ l.high)
     × (l.high ≤ length (g.T.TimeLine.instants l.t))
-    × ((k : ℕ) (d : Instant) → k < l.low → moment (get_or (g.T.TimeLine.instants l.t) k d) ≤ moment l.at)
-    × ((k : ℕ) (d : Instant) → l.high ≤ k → k < length (g.T.TimeLine.instants l.t) → moment l.at < moment (get_or (g.T.TimeLine.instants l.t) k d))
+    × ((k : ℕ) (d : Instant) → k < l.low → moment (get_or (g.T.TimeLine.instants l.t) k d) ≤ l.limit)
+    × ((k : ℕ) (d : Instant) → l.high ≤ k → k < length (g.T.TimeLine.instants l.t) → l.limit < moment (get_or (g.T.TimeLine.instants l.t) k d))
 
 abbrev pub decreases-loop-low : goal.decreases-loop-low
 decreases-loop-low g l = l.high - l.low

@@ -1,4 +1,4 @@
-use Rattle.std.proofs.Common.{◌+◌, ◌*◌, [], ◌∷◌, length, arith}
+use Rattle.std.proofs.Common.{◌+◌, ◌*◌, length, arith}
 use Rattle.std.proofs.lemmas.List.{length_push}
 use Rattle.std.proofs.lemmas.Slice.Zip.{zip_turn, zip_end}
 use Rattle.writing.specs.Texts.{fields_text}
@@ -18,7 +18,7 @@ loop-field-preserved c =
     let at = zip_turn c.args.fields.now c.args.values.now c.loop-field.yielded c.into_iter-field-iterator.result c.loop-field.field-iterator c.next.new.self _ (cc) (cc) c.loop-field.yielded_by (c.in-Some.field, c.in-Some.value) c.in-Some.is c.next.ensures.steps in
     let more = length_push c.loop-field.yielded (c.in-Some.field, c.in-Some.value) in
     let e = fields_next c.args.fields.now c.args.values.now n _ f v more at.0 at.1 (at.2 f) (at.3 v) in
-    puts_same (301 * n + (1 + 300)) _ _ _ _ _ e (omega (arith, more)) (puts_both (301 * n) (1 + 300) _ _ _ _ _ c.loop-field.invariant (puts_both 1 300 _ (32 ∷ []) _ _ _ c.put.ensures c.put_field.ensures))
+    puts_same (301 * n + 301) _ _ _ _ _ e (omega (arith, more)) (puts_both (301 * n) 301 _ _ _ _ _ c.loop-field.invariant c.put_field.ensures)
 
 pub returns : goal.returns
 returns c =
